@@ -1,10 +1,10 @@
--- Tables of codes: what stands beside a code, and which code stands beside a value.
+-- Tables of codes: the value of a code, and the code of a value.
 use Rattle.std.specs.Prelude.{◌≡◌, ◌≢◌, ◌==◌, ◌++◌, ◌-◌, ◌⊎◌, ℕ, Bool, true, List, [], ◌∷◌, length, Option, Some, None, if◌then◌else◌, replicate}
 use Rattle.std.specs.List.{before_first, AllByRecursion}
 use Rattle.std.specs.Str.{bytes_eq}
 use Rattle.hazard_types.specs.declared.codes.Coded.{Coded}
 
--- a code without the blanks at its end
+-- the characters of a code before its first blank
 abbrev pub unfilled : List ℕ → List ℕ
 unfilled code = before_first (λ c. c == 32) code
 
@@ -26,23 +26,26 @@ module _ {T : Type 0} where
   -- the value of the first row with this code
   abbrev pub value_beside : List (Coded T) → List ℕ → Option T
   value_beside [] code = None
-  value_beside (row ∷ rows) code = if bytes_eq (unfilled row.code) code then Some row.value else value_beside rows code
+  value_beside (row ∷ rows) code =
+      if bytes_eq (unfilled row.code) code then Some row.value else value_beside rows code
 
   -- the code of the first row with this value
   abbrev pub code_beside : (T → T → Bool) → List (Coded T) → T → Option (List ℕ)
   code_beside same [] value = None
-  code_beside same (row ∷ rows) value = if same row.value value then Some row.code else code_beside same rows value
+  code_beside same (row ∷ rows) value =
+      if same row.value value then Some row.code else code_beside same rows value
 
-  -- there is such a row
+  -- a row has the property
   abbrev pub SomeRow : (Coded T → Type 0) → List (Coded T) → Type 0
   SomeRow P [] = ⊥
   SomeRow P (row ∷ rows) = P row ⊎ SomeRow P rows
 
-  -- neither the code nor the value of this row stands in one of these
+  -- no row of these has the code of this row, and none has its value
   abbrev pub StandsAlone : Coded T → List (Coded T) → Type 0
-  StandsAlone row rows = AllByRecursion (λ (other : Coded T). (row.code ≢ other.code) × (row.value ≢ other.value)) rows
+  StandsAlone row rows =
+      AllByRecursion (λ (other : Coded T). (row.code ≢ other.code) × (row.value ≢ other.value)) rows
 
-  -- each row has a code, and no code and no value stands twice
+  -- each code has its form, and no two rows have the same code or the same value
   abbrev pub IsTable : List (Coded T) → Type 0
   IsTable [] = Unit {0}
   IsTable (row ∷ rows) = IsCode row.code × StandsAlone row rows × IsTable rows

@@ -19,7 +19,8 @@ pub record DeskHazard : Type 0 where
   pub name : List ℕ
   pub facts : Facts
 
--- a hazard of public zones with a closed end and no H-VTEC: one category opens and follows it, and it has a rank in its family
+-- a hazard of forecast zones, with an end and without H-VTEC: one category opens and follows it,
+-- and it has a rank in its family
 abbrev pub zonal : List ℕ → Sig → List ℕ → Category → Family → ℕ → DeskHazard
 zonal phen sig name category family rank = record {
   hazard = record { phen = phen; sig = sig };
@@ -27,7 +28,7 @@ zonal phen sig name category family rank = record {
   facts = record { opens = category; follows = category; kind = kind.Z; family = Some (family, rank); ufn = false; flood = false };
 }
 
--- a flood of public zones: as these, with H-VTEC
+-- a flood in forecast zones: the same, but with H-VTEC
 abbrev pub areal : List ℕ → Sig → List ℕ → Category → Family → ℕ → DeskHazard
 areal phen sig name category family rank = record {
   hazard = record { phen = phen; sig = sig };
@@ -35,7 +36,7 @@ areal phen sig name category family rank = record {
   facts = record { opens = category; follows = category; kind = kind.Z; family = Some (family, rank); ufn = false; flood = true };
 }
 
--- a flood of a river in counties, with H-VTEC: it may stand until further notice, and is of no family
+-- a river flood in counties, with H-VTEC: it may last until further notice, and has no family
 abbrev pub river : List ℕ → Sig → List ℕ → Category → Category → DeskHazard
 river phen sig name opens follows = record {
   hazard = record { phen = phen; sig = sig };
@@ -75,7 +76,7 @@ desk_hazards =
     river (codes "FL") sig.Y (codes "Flood Advisory") category.Fls category.Fls ∷
     []
 
--- what stands beside a hazard in rows
+-- the value of the first row with a hazard
 abbrev pub beside : {X : Type 0} → List (Hazard × X) → Hazard → Option X
 beside [] h = None
 beside (r ∷ rows) h = if same_hazard r.0 h then Some r.1 else beside rows h
@@ -86,7 +87,7 @@ fact_rows = map (λ (d : DeskHazard). (d.hazard, d.facts)) desk_hazards
 unfoldable pub name_rows : List (Hazard × List ℕ)
 name_rows = map (λ (d : DeskHazard). (d.hazard, d.name)) desk_hazards
 
--- what the desk knows of a hazard, if it issues it
+-- the facts of a hazard, if the desk issues it
 unfoldable pub facts_of : Hazard → Option Facts
 facts_of h = beside fact_rows h
 

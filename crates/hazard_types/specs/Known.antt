@@ -1,4 +1,4 @@
--- Rows of what is known of hazards, by the letters of their phenomenon and their significance.
+-- Rows with a value for each hazard, which is given by its phenomenon and its significance.
 use Rattle.std.specs.Prelude.{List, [], ◌∷◌, Option, Some, None, if◌then◌else◌}
 use Rattle.hazard_types.specs.Same.{same_hazard}
 use Rattle.hazard_types.specs.declared.hazard.Hazard.{Hazard}
@@ -8,7 +8,8 @@ use Rattle.hazard_types.specs.declared.desk_hazards.Known.{Known}
 abbrev pub hazard_in : {X : Type 0} → Known X → Hazard
 hazard_in row = record { phen = row.letters; sig = row.sig }
 
--- what stands in the first row of a hazard
+-- the value of the first row with a hazard
 abbrev pub told_beside : {X : Type 0} → List (Known X) → Hazard → Option X
 told_beside [] h = None
-told_beside (row ∷ rows) h = if same_hazard (hazard_in row) h then Some row.value else told_beside rows h
+told_beside (row ∷ rows) h =
+    if same_hazard (hazard_in row) h then Some row.value else told_beside rows h

@@ -1,4 +1,4 @@
--- The letters of classes, actions, significances, severities and statuses, as they are written: those that stand beside them in their tables.
+-- The codes of classes, actions, significances, severities and statuses, as their tables have them.
 use Rattle.std.specs.Prelude.{ℕ, List, [], ◌∷◌, codes}
 use Rattle.hazard_types.specs.Orders.{sig_letter}
 use Rattle.hazard_types.specs.declared.codes.Class.{Class}

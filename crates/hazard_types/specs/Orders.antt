@@ -11,7 +11,7 @@ use Rattle.hazard_types.specs.declared.hazard.Event.{Event}
 use Rattle.hazard_types.specs.declared.period.End.{End}
 use Rattle.hazard_types.specs.declared.period.End.TheVariants.{At, Ufn}
 
--- the letter that stands for a significance in a code
+-- the letter of a significance
 abbrev pub sig_letter : Sig → ℕ
 sig_letter W = 87
 sig_letter A = 65
@@ -27,13 +27,17 @@ by_letter = on sig_letter nat_cmp
 
 -- hazards by phenomenon, then the letter of the significance
 abbrev pub by_hazard : Hazard → Hazard → Ordering
-by_hazard = then_cmp (on (λ (h : Hazard). h.phen) (slice_cmp nat_cmp)) (on (λ (h : Hazard). h.sig) by_letter)
+by_hazard =
+    then_cmp (on (λ (h : Hazard). h.phen) (slice_cmp nat_cmp))
+    (on (λ (h : Hazard). h.sig) by_letter)
 
--- events by phenomenon, letter, number, year
+-- events by phenomenon, letter of the significance, number, year
 abbrev pub by_event : Event → Event → Ordering
-by_event = then_cmp (on (λ (e : Event). e.hazard) by_hazard) (then_cmp (on (λ (e : Event). e.etn) nat_cmp) (on (λ (e : Event). e.year) nat_cmp))
+by_event =
+    then_cmp (on (λ (e : Event). e.hazard) by_hazard)
+    (then_cmp (on (λ (e : Event). e.etn) nat_cmp) (on (λ (e : Event). e.year) nat_cmp))
 
--- a minute before until further notice
+-- ends by minute, each before until further notice
 abbrev pub by_end : End → End → Ordering
 by_end (At m) (At n) = nat_cmp m n
 by_end (At m) Ufn = Less

@@ -1,4 +1,4 @@
--- What a text says of one zone: a P-VTEC line, without a year, and the H-VTEC line behind it, if any.
+-- What a text says of a zone: a P-VTEC line, without a year, and the H-VTEC line after it, if any.
 use Rattle.std.specs.Prelude.{Option}
 use Rattle.hazard_types.specs.Places.{Place}
 use Rattle.hazard_types.specs.declared.line.Vtec.{Vtec}

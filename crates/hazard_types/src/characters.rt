@@ -1,51 +1,57 @@
-//! The characters of codes and texts.
+//! Tests of the characters of codes and texts.
 ghost use Rattle.std.specs.Prelude.{◌≡◌};
 ghost use Rattle.std.specs.List.{list_all};
 ghost use Rattle.hazard_types.specs.Characters.{is_name_byte, is_blank, is_printable, is_office, is_location, location_at};
 
-/// Whether a byte is one of A to Z and 0 to 9.
+/// Whether the byte is A-Z or 0-9.
 pub fn is_name_byte(byte: u8) -> bool
     ensures { result ≡ is_name_byte byte }
 {
     byte.is_ascii_uppercase() || byte.is_ascii_digit()
 }
 
-/// Whether a byte is a space or a tab.
+/// Whether the byte is a space or a tab.
 pub fn is_blank(byte: u8) -> bool
     ensures { result ≡ is_blank byte }
 {
     byte == b' ' || byte == b'\t'
 }
 
-/// Whether a byte is a printable character of ASCII, the space among them.
+/// Whether the byte is a printable ASCII character, from the space to `~`.
 pub fn is_printable(byte: u8) -> bool
     ensures { result ≡ is_printable byte }
 {
     32 <= byte && byte <= 126
 }
 
-/// Whether each byte is one of A to Z and 0 to 9.
+/// Whether each byte is A-Z or 0-9.
 pub fn are_name_bytes(text: &[u8]) -> bool
     ensures { result ≡ list_all is_name_byte text.now }
 {
     text.iter().all(|byte| is_name_byte(*byte))
 }
 
-/// Whether a text is an office's code: four of A to Z and 0 to 9.
+/// Whether the text is the code of an office: four characters of A-Z and 0-9, as `KLWX`.
+///
+/// Source: NWS Instruction 10-1703, P-VTEC office identifier.
 pub fn is_office(text: &[u8]) -> bool
     ensures { result ≡ is_office text.now }
 {
     text.len() == 4 && are_name_bytes(text)
 }
 
-/// Whether a text is a location's code: five of A to Z and 0 to 9.
+/// Whether the text is the code of a location: five characters of A-Z and 0-9, as `FDKM2`.
+///
+/// Source: NWS Instruction 10-1703, H-VTEC location identifier.
 pub fn is_location(text: &[u8]) -> bool
     ensures { result ≡ is_location text.now }
 {
     text.len() == 5 && are_name_bytes(text)
 }
 
-/// The five characters of a location's code. None exactly where the bytes are no location's code.
+/// Returns the five characters of the code of a location, or `None` if the text is not one.
+///
+/// Source: NWS Instruction 10-1703, H-VTEC location identifier.
 pub fn location_in(text: &[u8]) -> Option<[u8; 5]>
     ensures { result ≡ location_at text.now }
 {

@@ -1,4 +1,4 @@
-//! The tables of codes.
+//! The tables of codes: each row has a code and the value that it is for.
 ghost use Rattle.std.specs.Prelude.{◌≡◌};
 ghost use Rattle.hazard_types.specs.Codes.{IsTable};
 ghost use Rattle.hazard_types.specs.Tables.{class_rows, action_rows, sig_rows, severity_rows, cause_rows, status_rows, category_rows};
@@ -6,14 +6,16 @@ ghost use Rattle.hazard_types.specs.Tables.{class_rows, action_rows, sig_rows, s
 use crate::codes::{Action, Category, Cause, Class, Coded, Severity, Status};
 use crate::hazard::Sig;
 
-/// Rows of codes, each filled up with blanks to four characters, and their values.
+/// An array of rows. Each code is written with blanks up to four bytes.
 macro_rules! rows {
     ($($code:literal => $value:expr),+ $(,)?) => {
         [$(Coded { code: *$code, value: $value }),+]
     };
 }
 
-/// The classes of products.
+/// Returns the table of product classes.
+///
+/// Source: NWS Instruction 10-1703, P-VTEC product class.
 #[tactic(auto, using(crate::proofs::Tables::class_table), unfolding(crate::specs::Tables::class_rows))]
 pub fn classes() -> [Coded<Class>; 4]
     ensures rows { result ≡ class_rows }
@@ -22,7 +24,9 @@ pub fn classes() -> [Coded<Class>; 4]
     rows![b"O   " => Class::O, b"T   " => Class::T, b"E   " => Class::E, b"X   " => Class::X]
 }
 
-/// What a line does to an event in a zone.
+/// Returns the table of actions.
+///
+/// Source: NWS Instruction 10-1703, P-VTEC action codes.
 #[tactic(auto, using(crate::proofs::Tables::action_table), unfolding(crate::specs::Tables::action_rows))]
 pub fn actions() -> [Coded<Action>; 10]
     ensures rows { result ≡ action_rows }
@@ -42,7 +46,9 @@ pub fn actions() -> [Coded<Action>; 10]
     ]
 }
 
-/// The significances of hazards.
+/// Returns the table of significances.
+///
+/// Source: NWS Instruction 10-1703, P-VTEC significance codes.
 #[tactic(auto, using(crate::proofs::Tables::sig_table), unfolding(crate::specs::Tables::sig_rows))]
 pub fn significances() -> [Coded<Sig>; 7]
     ensures rows { result ≡ sig_rows }
@@ -59,7 +65,9 @@ pub fn significances() -> [Coded<Sig>; 7]
     ]
 }
 
-/// The severities of floods.
+/// Returns the table of flood severities.
+///
+/// Source: NWS Instruction 10-1703, H-VTEC flood severity.
 #[tactic(auto, using(crate::proofs::Tables::severity_table), unfolding(crate::specs::Tables::severity_rows))]
 pub fn severities() -> [Coded<Severity>; 6]
     ensures rows { result ≡ severity_rows }
@@ -75,7 +83,9 @@ pub fn severities() -> [Coded<Severity>; 6]
     ]
 }
 
-/// The causes of floods that the desk writes.
+/// Returns the table of the flood causes that a request may name.
+///
+/// Source: NWS Instruction 10-1703, H-VTEC immediate cause; docs/HAZARDS.md, "Flood values".
 #[tactic(auto, using(crate::proofs::Tables::cause_table), unfolding(crate::specs::Tables::cause_rows))]
 pub fn written_causes() -> [Coded<Cause>; 7]
     ensures rows { result ≡ cause_rows }
@@ -92,16 +102,25 @@ pub fn written_causes() -> [Coded<Cause>; 7]
     ]
 }
 
-/// How floods compare with the record.
+/// Returns the table of flood record statuses.
+///
+/// Source: NWS Instruction 10-1703, H-VTEC flood record status.
 #[tactic(auto, using(crate::proofs::Tables::status_table), unfolding(crate::specs::Tables::status_rows))]
 pub fn statuses() -> [Coded<Status>; 4]
     ensures rows { result ≡ status_rows }
     ensures table { IsTable result }
 {
-    rows![b"NO  " => Status::No, b"NR  " => Status::Nr, b"UU  " => Status::Uu, b"OO  " => Status::Oo]
+    rows![
+        b"NO  " => Status::No,
+        b"NR  " => Status::Nr,
+        b"UU  " => Status::Uu,
+        b"OO  " => Status::Oo
+    ]
 }
 
-/// The categories of products.
+/// Returns the table of product categories.
+///
+/// Source: docs/HAZARDS.md, "Categories".
 #[tactic(auto, using(crate::proofs::Tables::category_table), unfolding(crate::specs::Tables::category_rows))]
 pub fn categories() -> [Coded<Category>; 8]
     ensures rows { result ≡ category_rows }

@@ -8,10 +8,12 @@ use std::marker::Model;
 /// The most characters of a desk's name.
 const MOST: usize = 16;
 
-/// A desk's name: 1 to 16 characters of `A` to `Z` and `0` to `9`.
+/// A desk's name: 1 to 16 characters of A-Z and 0-9.
+///
+/// Source: docs/REQUESTS.md, "The requests" (field `desk`).
 #[derive(Clone, Copy, Debug, PartialEq, Eq)]
 pub struct Desk {
-    // The name, and zeros behind it.
+    // The name, and zeros up to 16 bytes.
     name: [u8; 16],
     count: u8,
 }
@@ -31,14 +33,14 @@ impl Model for Desk {
     ghost inverse_ok = { λ d h. λ i. record { name = (padded_back d.name d.count h).0 i; count = (padded_back d.name d.count h).1 i } };
 }
 
-/// Whether these bytes are a desk's name.
+/// Whether the bytes are a desk's name.
 fn is_desk_name(bytes: &[u8]) -> bool
     ensures { result ≡ is_desk_name bytes.now }
 {
     !bytes.is_empty() && bytes.len() <= MOST && are_name_bytes(bytes)
 }
 
-/// The bytes, and zeros behind them.
+/// Returns the bytes, with zeros up to 16.
 fn padded(bytes: &[u8]) -> [u8; 16]
     requires { length bytes.now ≤ 16 }
     ensures { result ≡ padded bytes.now }
@@ -49,7 +51,7 @@ fn padded(bytes: &[u8]) -> [u8; 16]
 }
 
 impl Desk {
-    /// The desk of this name, if it is one.
+    /// Returns the desk with this name, or `None` if the bytes are not a desk's name.
     #[tactic(auto, using(crate::proofs::DeskNames::padded_name, crate::proofs::DeskNames::padded_take))]
     pub fn new(bytes: &[u8]) -> Option<Self>
         ensures { result ≡ (if is_desk_name bytes.now then Some bytes.now else None) }
@@ -63,7 +65,7 @@ impl Desk {
         })
     }
 
-    /// The bytes of the name.
+    /// Returns the name, 1 to 16 bytes.
     pub fn bytes(&self) -> &[u8]
         ensures value { result.now ≡ self.now }
         ensures name { IsTrue (is_desk_name result.now) }

@@ -11,8 +11,9 @@ use crate::hazard::{Hazard, Phen, Sig};
 use crate::names::hazard_text;
 use crate::zone::Kind;
 
-/// What `$part` makes of each hazard. Of each stand its letters, its significance, its name, and then:
-/// of a zonal or areal hazard its category, its family and its rank there; of a flood of a river the categories that open and follow it.
+/// An array of what `$part` makes of each hazard: its phenomenon, its significance and its name. A
+/// zonal or areal hazard also has its category, its family and its rank there; a river flood the
+/// category that opens it and the one that follows it.
 macro_rules! each_hazard {
     ($part:ident) => {
         [
@@ -48,7 +49,7 @@ macro_rules! each_hazard {
     };
 }
 
-/// The hazard of two capital letters and a significance.
+/// The hazard with two capital letters and a significance.
 macro_rules! hazard {
     ($letters:literal, $sig:ident) => {
         Hazard {
@@ -58,7 +59,7 @@ macro_rules! hazard {
     };
 }
 
-/// The row of a hazard in the table of codes.
+/// Returns the row of a hazard in the table of codes.
 fn code(hazard: Hazard) -> Coded<Hazard>
     ensures { result ≡ row (hazard_code hazard) hazard }
 {
@@ -80,7 +81,9 @@ fn all_codes() -> [Coded<Hazard>; 28]
     each_hazard!(coded)
 }
 
-/// The codes of the hazards, as `WS.W`.
+/// Returns the table of the 28 hazards that the desk issues, with codes as `WS.W`.
+///
+/// Source: docs/HAZARDS.md.
 #[tactic(auto, using(crate::proofs::Tables::hazard_table))]
 pub fn hazard_codes() -> [Coded<Hazard>; 28]
     ensures rows { result ≡ hazard_rows }
@@ -89,7 +92,7 @@ pub fn hazard_codes() -> [Coded<Hazard>; 28]
     all_codes()
 }
 
-/// What is known of the hazard of two letters and a significance.
+/// A value for the hazard with two letters and a significance.
 struct Known<V> {
     letters: [u8; 2],
     sig: Sig,
@@ -110,18 +113,28 @@ macro_rules! facts_of_row {
 }
 
 macro_rules! known_facts {
-    ($letters:literal, $sig:ident, $name:literal, zonal $category:ident, $family:ident, $rank:literal) => {
+    (
+        $letters:literal, $sig:ident, $name:literal,
+        zonal $category:ident, $family:ident, $rank:literal
+    ) => {
         Known {
             letters: *$letters,
             sig: Sig::$sig,
-            value: facts_of_row!($category, $category, Z, Some((Family::$family, $rank)), false, false),
+            value: facts_of_row!(
+                $category, $category, Z, Some((Family::$family, $rank)), false, false
+            ),
         }
     };
-    ($letters:literal, $sig:ident, $name:literal, areal $category:ident, $family:ident, $rank:literal) => {
+    (
+        $letters:literal, $sig:ident, $name:literal,
+        areal $category:ident, $family:ident, $rank:literal
+    ) => {
         Known {
             letters: *$letters,
             sig: Sig::$sig,
-            value: facts_of_row!($category, $category, Z, Some((Family::$family, $rank)), false, true),
+            value: facts_of_row!(
+                $category, $category, Z, Some((Family::$family, $rank)), false, true
+            ),
         }
     };
     ($letters:literal, $sig:ident, $name:literal, river $opens:ident, $follows:ident) => {
@@ -156,7 +169,7 @@ fn all_names() -> &'static [Known<&'static str>; 28]
     &NAMES
 }
 
-/// What stands beside a hazard in rows.
+/// Returns the value of the first row with the hazard, or `None` if no row has it.
 fn beside<V: Copy>(rows: &[Known<V>], h: Hazard) -> Option<V>
     ensures { result ≡ told_beside rows.now h }
 {
@@ -169,19 +182,26 @@ fn beside<V: Copy>(rows: &[Known<V>], h: Hazard) -> Option<V>
     None
 }
 
-/// What the desk knows of a hazard. None exactly where it does not issue the hazard.
+/// Returns the facts of a hazard, or `None` if the desk does not issue it.
+///
+/// Source: docs/HAZARDS.md.
 pub fn facts(h: Hazard) -> Option<Facts>
     ensures value { result ≡ facts_of h }
-    ensures stands { IfSome result (λ f. (d : DeskHazard) × Contains desk_hazards d × (d.hazard ≡ h) × (d.facts ≡ f)) }
+    ensures stands { IfSome result (λ f. (d : DeskHazard) ×
+        Contains desk_hazards d × (d.hazard ≡ h) × (d.facts ≡ f)) }
     ensures none { IfNone result ((d : DeskHazard) → Contains desk_hazards d → d.hazard ≢ h) }
 {
     beside(&FACTS, h)
 }
 
-/// A hazard's name in headlines. None exactly where the desk does not issue the hazard.
+/// Returns a hazard's name in headlines, as `Winter Storm Warning`, or `None` if the desk does not
+/// issue it.
+///
+/// Source: docs/HAZARDS.md.
 pub fn name_of(h: Hazard) -> Option<&'static str>
     ensures value { option_copied result ≡ name_of h }
-    ensures stands { IfSome result (λ name. (d : DeskHazard) × Contains desk_hazards d × (d.hazard ≡ h) × (d.name ≡ name.now)) }
+    ensures stands { IfSome result (λ name. (d : DeskHazard) ×
+        Contains desk_hazards d × (d.hazard ≡ h) × (d.name ≡ name.now)) }
     ensures none { IfNone result ((d : DeskHazard) → Contains desk_hazards d → d.hazard ≢ h) }
 {
     beside(all_names(), h)

@@ -1,4 +1,4 @@
-//! Numbers and day stamps in digits.
+//! Numbers and day stamps in decimal digits.
 ghost use Rattle.std.specs.Prelude.{◌≡◌, ◌<◌, ◌≤◌, ◌+◌, ◌-◌, ◌*◌, ◌++◌, IsTrue, IfSome, Some, OnOk, decimal};
 ghost use Rattle.hazard_types.specs.Calendar.{is_digit};
 ghost use Rattle.hazard_types.specs.declared.calendar.DayStamp.{DayStamp as Stamp};
@@ -8,7 +8,7 @@ use crate::calendar::DayStamp;
 use crate::list::{Oom, Text};
 use std::alloc::Global;
 
-/// A number below 100 in two digits.
+/// Returns a number below 100 as two digits.
 pub fn two_digits(n: u8) -> [u8; 2]
     requires { n < 100 }
     ensures { result ≡ two_digits n }
@@ -16,7 +16,7 @@ pub fn two_digits(n: u8) -> [u8; 2]
     [b'0' + n / 10, b'0' + n % 10]
 }
 
-/// A number below 1,000 in three digits.
+/// Returns a number below 1,000 as three digits.
 pub fn three_digits(n: u16) -> [u8; 3]
     requires { n ≤ 999 }
     ensures { result ≡ three_digits n }
@@ -28,7 +28,7 @@ pub fn three_digits(n: u16) -> [u8; 3]
     ]
 }
 
-/// A number below 10,000 in four digits.
+/// Returns a number below 10,000 as four digits.
 pub fn four_digits(n: u16) -> [u8; 4]
     requires { n ≤ 9999 }
     ensures { result ≡ four_digits n }
@@ -41,7 +41,11 @@ pub fn four_digits(n: u16) -> [u8; 4]
     ]
 }
 
-/// Adds a number in decimal digits, without zeros in front.
+/// Appends a number in decimal digits, without leading zeros.
+///
+/// # Errors
+///
+/// Out of memory.
 pub fn put_number(alloc: Global, out: &mut Text, n: usize) -> Result<(), Oom>
     ensures { OnOk result (out.new ≡ out.old ++ decimal n) }
 {
@@ -49,7 +53,11 @@ pub fn put_number(alloc: Global, out: &mut Text, n: usize) -> Result<(), Oom>
     out.extend(text.as_bytes())
 }
 
-/// Adds a number in four digits, or in as many as it has.
+/// Appends a number in four digits, or in five if it is 10,000 or more.
+///
+/// # Errors
+///
+/// Out of memory.
 #[tactic(auto, unfolding(crate::specs::Digits::wide))]
 pub fn put_wide(alloc: Global, out: &mut Text, n: u16) -> Result<(), Oom>
     ensures { OnOk result (out.new ≡ out.old ++ wide n) }
@@ -61,14 +69,16 @@ pub fn put_wide(alloc: Global, out: &mut Text, n: u16) -> Result<(), Oom>
     }
 }
 
-/// Whether a day is 1 to 31, an hour below 24 and a minute below 60.
+/// Whether the day is 1 to 31, the hour below 24 and the minute below 60.
 pub fn is_day_stamp(d: DayStamp) -> bool
     ensures { result ≡ is_day_stamp d }
 {
     1 <= d.day && d.day <= 31 && d.hour <= 23 && d.minute <= 59
 }
 
-/// The six digits of a day stamp.
+/// Returns a day stamp in range as six digits: day, hour, minute.
+///
+/// Source: NWS Instruction 10-1702, UGC expiry; NWS Instruction 10-1701, WMO heading.
 pub fn day_text(d: DayStamp) -> [u8; 6]
     requires { IsTrue (is_day_stamp d) }
     ensures { result ≡ day_text d }
@@ -79,7 +89,7 @@ pub fn day_text(d: DayStamp) -> [u8; 6]
     [day[0], day[1], hour[0], hour[1], minute[0], minute[1]]
 }
 
-/// The number that two digits spell.
+/// Returns the number that two digits are.
 pub(crate) fn two_of(tens: u8, ones: u8) -> u8
     requires tens { IsTrue (is_digit tens) }
     requires ones { IsTrue (is_digit ones) }
@@ -116,7 +126,10 @@ fn day_stamp_of(text: &[u8]) -> Option<DayStamp>
     }
 }
 
-/// The day stamp of six digits. None exactly where the bytes are no day stamp.
+/// Returns the day stamp that six digits are, or `None` if the bytes are not six digits or are out
+/// of range.
+///
+/// Source: NWS Instruction 10-1702, UGC expiry; NWS Instruction 10-1701, WMO heading.
 #[tactic(auto, using(crate::proofs::DayTexts::day_stamp_back, crate::proofs::DayTexts::day_stamp_is_read))]
 pub fn day_stamp_in(text: &[u8]) -> Option<DayStamp>
     ensures found { IfSome result (λ d. IsTrue (is_day_stamp d) × (text.now ≡ day_text d)) }

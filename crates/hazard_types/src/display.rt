@@ -1,4 +1,4 @@
-//! How values and errors are printed, in plain words.
+//! Texts of values and errors, for people.
 use crate::calendar::stamp;
 use crate::desk::Desk;
 use crate::hazard::{Event, Hazard};
@@ -11,26 +11,26 @@ use crate::zone::Zone;
 use std::error::Error;
 use std::{fmt, str};
 
-/// The bytes as text, or `?` if they are no UTF-8.
+/// Returns the bytes as text, or `?` if they are not UTF-8.
 fn text_of(bytes: &[u8]) -> &str {
     str::from_utf8(bytes).unwrap_or("?")
 }
 
-/// As `MDZ003`.
+/// Writes the zone as `MDZ003`.
 impl fmt::Display for Zone {
     fn fmt<W: fmt::Write>(&self, f: &mut fmt::Formatter<W>) -> fmt::Result {
         f.pad(text_of(&zone_text(self)))
     }
 }
 
-/// As `WS.W`.
+/// Writes the hazard as `WS.W`.
 impl fmt::Display for Hazard {
     fn fmt<W: fmt::Write>(&self, f: &mut fmt::Formatter<W>) -> fmt::Result {
         f.pad(text_of(&hazard_text(self)))
     }
 }
 
-/// As `WS.W.0001.2018`.
+/// Writes the event as `WS.W.0001.2018`.
 impl fmt::Display for Event {
     fn fmt<W: fmt::Write>(&self, f: &mut fmt::Formatter<W>) -> fmt::Result {
         let hazard = &self.hazard;
@@ -40,14 +40,14 @@ impl fmt::Display for Event {
     }
 }
 
-/// As `180103T1530Z`.
+/// Writes the minute as its stamp, `180103T1530Z`.
 impl fmt::Display for Minute {
     fn fmt<W: fmt::Write>(&self, f: &mut fmt::Formatter<W>) -> fmt::Result {
         f.pad(text_of(&stamp(*self)))
     }
 }
 
-/// The desk's name.
+/// Writes the desk's name.
 impl fmt::Display for Desk {
     fn fmt<W: fmt::Write>(&self, f: &mut fmt::Formatter<W>) -> fmt::Result {
         f.pad(text_of(self.bytes()))
@@ -62,7 +62,7 @@ impl fmt::Display for Oom {
 
 impl Error for Oom {}
 
-/// The text of the refusal, or that of `Oom`.
+/// Writes the text of the refusal, or that of `Oom`.
 impl<E: fmt::Display> fmt::Display for Or<E> {
     fn fmt<W: fmt::Write>(&self, f: &mut fmt::Formatter<W>) -> fmt::Result {
         match self {
@@ -74,7 +74,8 @@ impl<E: fmt::Display> fmt::Display for Or<E> {
 
 impl<E: Error> Error for Or<E> {}
 
-/// The code and the name of the refusal, and what is wrong: `E7 UnknownZone: the office has no zone MDZ099`.
+/// Writes the refusal's code, its name and what is wrong, as in `E7 UnknownZone: the office has no
+/// zone MDZ099`.
 impl fmt::Display for Refusal {
     fn fmt<W: fmt::Write>(&self, f: &mut fmt::Formatter<W>) -> fmt::Result {
         let (code, name, _status) = self.label();
@@ -85,7 +86,7 @@ impl fmt::Display for Refusal {
 
 impl Error for Refusal {}
 
-/// What is wrong: of a call and its text, or of a later refusal.
+/// Writes what is wrong, for a refusal of a call or of its text; passes others on.
 fn put_call_refusal<W: fmt::Write>(refusal: &Refusal, f: &mut fmt::Formatter<W>) -> fmt::Result {
     match refusal {
         Refusal::BadHead => f.write_str(
@@ -103,7 +104,7 @@ fn put_call_refusal<W: fmt::Write>(refusal: &Refusal, f: &mut fmt::Formatter<W>)
     }
 }
 
-/// What is wrong with a field. `?` stands for an unknown key, `.` for a value that is no object.
+/// Writes what is wrong with a field: `?` is an unknown key, `.` a value that is not an object.
 fn put_wrong_shape<W: fmt::Write>(field: &Text, f: &mut fmt::Formatter<W>) -> fmt::Result {
     match text_of(field.as_slice()) {
         "." => f.write_str("the line is no JSON object"),
@@ -112,7 +113,7 @@ fn put_wrong_shape<W: fmt::Write>(field: &Text, f: &mut fmt::Formatter<W>) -> fm
     }
 }
 
-/// A refusal that speaks of the desk and its numbers, or a later one.
+/// Writes what is wrong, for a refusal about the desk, its numbers or the clock; passes others on.
 fn put_desk_refusal<W: fmt::Write>(refusal: &Refusal, f: &mut fmt::Formatter<W>) -> fmt::Result {
     match refusal {
         Refusal::UnknownDesk => f.write_str("the office has no such desk"),
@@ -136,7 +137,7 @@ fn put_desk_refusal<W: fmt::Write>(refusal: &Refusal, f: &mut fmt::Formatter<W>)
     }
 }
 
-/// A refusal that speaks of a draft, or a later one.
+/// Writes what is wrong, for a refusal about a draft; passes others on.
 fn put_draft_refusal<W: fmt::Write>(refusal: &Refusal, f: &mut fmt::Formatter<W>) -> fmt::Result {
     match refusal {
         Refusal::NoDraft => f.write_str("no draft has this number"),
@@ -152,7 +153,7 @@ fn put_draft_refusal<W: fmt::Write>(refusal: &Refusal, f: &mut fmt::Formatter<W>
     }
 }
 
-/// A refusal that speaks of what a request names, or a later one.
+/// Writes what is wrong, for a refusal about what a request names; passes others on.
 fn put_part_refusal<W: fmt::Write>(refusal: &Refusal, f: &mut fmt::Formatter<W>) -> fmt::Result {
     match refusal {
         Refusal::UnknownZone { zone } => { write!(f, "the office has no zone {zone}") }
@@ -179,7 +180,7 @@ fn put_part_refusal<W: fmt::Write>(refusal: &Refusal, f: &mut fmt::Formatter<W>)
     }
 }
 
-/// A refusal that speaks of an event in a product's lines, or a later one.
+/// Writes what is wrong, for a refusal about an event in a product's lines; passes others on.
 fn put_event_refusal<W: fmt::Write>(refusal: &Refusal, f: &mut fmt::Formatter<W>) -> fmt::Result {
     match refusal {
         Refusal::NoEvent { event } => write!(f, "{event} is no open event, or none of the product"),
@@ -204,7 +205,7 @@ fn put_event_refusal<W: fmt::Write>(refusal: &Refusal, f: &mut fmt::Formatter<W>
     }
 }
 
-/// A refusal that speaks of an intent, or a later one.
+/// Writes what is wrong, for a refusal about an intent; passes others on.
 fn put_intent_refusal<W: fmt::Write>(refusal: &Refusal, f: &mut fmt::Formatter<W>) -> fmt::Result {
     match refusal {
         Refusal::EmptyDraft => f.write_str("the draft has no intent"),
@@ -228,7 +229,7 @@ fn put_intent_refusal<W: fmt::Write>(refusal: &Refusal, f: &mut fmt::Formatter<W
     }
 }
 
-/// A refusal that speaks of a product as a whole.
+/// Writes what is wrong, for a refusal about a product as a whole.
 fn put_product_refusal<W: fmt::Write>(refusal: &Refusal, f: &mut fmt::Formatter<W>) -> fmt::Result {
     match refusal {
         Refusal::NumbersSpent { hazard } => { write!(f, "{hazard} has had 9999 events this year") }

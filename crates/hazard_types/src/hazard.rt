@@ -1,4 +1,4 @@
-//! Hazards and events: what a code names.
+//! Phenomena, significances, hazards and events.
 ghost use Rattle.std.specs.Prelude.{◌≡◌, if◌then◌else◌, IsTrue};
 ghost use Rattle.hazard_types.specs.Places.{are_letters};
 ghost use Rattle.hazard_types.specs.Orders.{sig_letter, by_letter, by_hazard, by_event};
@@ -11,7 +11,9 @@ use crate::letters::letters_in_order;
 use std::cmp::Ordering;
 use std::marker::Model;
 
-/// A phenomenon: two capital letters.
+/// A phenomenon: two capital letters, as `WS`.
+///
+/// Source: NWS Instruction 10-1703, P-VTEC phenomena.
 #[derive(Clone, Copy, Debug, PartialEq, Eq, Hash)]
 pub struct Phen {
     letters: [u8; 2],
@@ -31,7 +33,7 @@ impl Model for Phen {
 }
 
 impl Phen {
-    /// The phenomenon of these letters, if both are capital letters.
+    /// Returns the phenomenon with these letters, or `None` if one is not A-Z.
     pub fn new(letters: [u8; 2]) -> Option<Self>
         ensures { result ≡ (if are_letters letters then Some letters else None) }
     {
@@ -42,7 +44,7 @@ impl Phen {
         }
     }
 
-    /// The phenomenon of two capital letters.
+    /// Returns the phenomenon with these capital letters.
     pub(crate) fn of(letters: [u8; 2]) -> Self
         requires { IsTrue (are_letters letters) }
         ensures { result ≡ letters }
@@ -50,7 +52,7 @@ impl Phen {
         Phen { letters }
     }
 
-    /// The two letters.
+    /// Returns the two letters.
     pub fn letters(self) -> [u8; 2]
         ensures value { result ≡ self }
     {
@@ -58,7 +60,9 @@ impl Phen {
     }
 }
 
-/// A significance, as the last part of a hazard's code.
+/// A significance, in order by its letter.
+///
+/// Source: NWS Instruction 10-1703, P-VTEC significance codes; docs/DECISIONS.md, "Forms".
 #[derive(Clone, Copy, Debug, PartialEq, Eq, Hash)]
 pub enum Sig {
     /// Warning.
@@ -78,7 +82,7 @@ pub enum Sig {
 }
 
 impl Sig {
-    /// The letter of the code.
+    /// Returns the letter of the significance.
     pub fn letter(self) -> u8
         ensures { result ≡ sig_letter self }
     {
@@ -111,17 +115,21 @@ impl Ord for Sig {
 impl PartialOrd for Sig {
     ghost partial_cmp = { as_partial_cmp by_letter };
 
-    ghost laws = { partial_order_from_own_ties (Prim.search (comparing, rules)) (Prim.search (comparing, rules)) };
+    ghost laws = { partial_order_from_own_ties
+        (Prim.search (comparing, rules)) (Prim.search (comparing, rules)) };
 
     fn partial_cmp(&self, other: &Sig) -> Option<Ordering> {
         Some(self.cmp(other))
     }
 }
 
-/// A hazard's code, as `WS.W`: in order by phenomenon, then by the letter of the significance.
+/// A hazard: a phenomenon and a significance, as `WS.W`. Hazards are in order by phenomenon, then
+/// by letter of the significance.
 #[derive(Clone, Copy, Debug, PartialEq, Eq, Hash)]
 pub struct Hazard {
+    /// The phenomenon.
     pub phen: Phen,
+    /// The significance.
     pub sig: Sig,
 }
 
@@ -145,23 +153,31 @@ impl Ord for Hazard {
 impl PartialOrd for Hazard {
     ghost partial_cmp = { as_partial_cmp by_hazard };
 
-    ghost laws = { partial_order_from_own_ties (Prim.search (comparing, rules)) (Prim.search (comparing, rules)) };
+    ghost laws = { partial_order_from_own_ties
+        (Prim.search (comparing, rules)) (Prim.search (comparing, rules)) };
 
     fn partial_cmp(&self, other: &Hazard) -> Option<Ordering> {
         Some(self.cmp(other))
     }
 }
 
-/// One event of a hazard: its number (ETN) and the year in which it was opened.
+/// An event: a hazard, its event tracking number and the year in which it was opened, as
+/// `WS.W.0001.2018`. Events are in order by hazard, number and year.
+///
+/// Source: NWS Instruction 10-1703, P-VTEC event tracking numbers.
 #[derive(Clone, Copy, Debug, PartialEq, Eq, PartialOrd, Ord, Hash)]
 pub struct Event {
+    /// The hazard.
     pub hazard: Hazard,
+    /// The event tracking number. Events have 1 to 9,999, routine lines 0.
     pub etn: u16,
+    /// The year in which the event was opened.
     pub year: u16,
 }
 
 impl Event {
-    /// How two events stand in the order of events: by phenomenon, letter, number, year.
+    /// Returns how `self` compares with `other`: by phenomenon, letter of the significance, number
+    /// and year.
     pub fn order(&self, other: &Event) -> Ordering
         ensures { result ≡ by_event self.now other.now }
     {

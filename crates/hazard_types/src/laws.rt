@@ -1,4 +1,5 @@
-//! Laws of the types' equalities and orders, and of stamps, for the crates above. The functions do nothing; their contracts are the laws.
+//! Laws of equality, of orders, of stamps and of names, for the crates above. The functions do
+//! nothing: their contracts are the laws.
 ghost use Rattle.std.specs.Prelude.{◌≡◌, ◌<◌, ℕ, List, Some, true};
 ghost use Rattle.std.specs.Bool.{Decides};
 ghost use Rattle.std.specs.Cmp.{IsTotalOrder};
@@ -20,7 +21,8 @@ use crate::period::End;
 use crate::request::Request;
 use crate::zone::Zone;
 
-/// `==` holds exactly of identical values.
+/// `==` of zones, hazards, events, H-VTEC values, lines, rows, desks and requests holds exactly of
+/// identical values.
 #[tactic(auto, using(crate::proofs::Equality::zone_decides, crate::proofs::Equality::hazard_decides, crate::proofs::Equality::event_decides, crate::proofs::Equality::flood_decides, crate::proofs::Equality::line_decides, crate::proofs::Equality::seg_line_decides, crate::proofs::Equality::row_decides, crate::proofs::Equality::desk_decides, crate::proofs::Equality::request_decides))]
 pub fn equality_is_identity()
     ensures zones { (a b : Place) → Decides (⟦<Zone as PartialEq>⟧.eq a b) (a ≡ b) }
@@ -34,7 +36,7 @@ pub fn equality_is_identity()
     ensures requests { (a b : Request) → Decides (⟦<Request as PartialEq>⟧.eq a b) (a ≡ b) }
 {}
 
-/// Zones, hazards, events and ends are totally ordered, and what ties is identical.
+/// Zones, hazards, events and ends are totally ordered, and those that compare equal are identical.
 #[tactic(auto, using(crate::proofs::OrderLaws::by_place_total, crate::proofs::OrderLaws::by_place_ties, crate::proofs::OrderLaws::by_hazard_total, crate::proofs::OrderLaws::by_hazard_ties, crate::proofs::OrderLaws::by_event_total, crate::proofs::OrderLaws::by_event_ties, crate::proofs::OrderLaws::event_cmp_is, crate::proofs::OrderLaws::end_cmp_is, crate::proofs::OrderLaws::by_end_total, crate::proofs::OrderLaws::by_end_ties))]
 pub fn orders_are_total()
     ensures zones { IsTotalOrder by_place }
@@ -49,14 +51,14 @@ pub fn orders_are_total()
     ensures end_ties { (a b : End) → ⟦<End as Ord>⟧.cmp a b ≡ Equal → a ≡ b }
 {}
 
-/// Stamps are read back: the stamp of a minute spells it, and what spells a minute is its stamp.
+/// The stamp of a minute is read as that minute, and bytes that are read as a minute are its stamp.
 #[tactic(auto, using(crate::proofs::Stamps::stamp_spells, crate::proofs::Stamps::spells_stamp))]
 pub fn stamps_are_inverse()
     ensures reads { (m : ℕ) → m < 52596000 → stamp_at (stamp_of m) ≡ Some m }
     ensures writes { (bytes : List ℕ) (m : ℕ) → stamp_at bytes ≡ Some m → bytes ≡ stamp_of m }
 {}
 
-/// `==` of the values of the tables of codes holds of identical values alone, as reading a table backwards asks.
+/// Two values of a table of codes that are equal by `==` are identical, as `code_of` requires.
 #[tactic(auto, using(crate::proofs::Equality::class_one, crate::proofs::Equality::action_one, crate::proofs::Equality::sig_one, crate::proofs::Equality::severity_one, crate::proofs::Equality::cause_one, crate::proofs::Equality::status_one, crate::proofs::Equality::category_one, crate::proofs::Equality::hazard_one))]
 pub fn values_of_tables_are_identical()
     ensures classes { HoldsOfIdentical ⟦<Class as PartialEq>⟧.eq }
@@ -69,11 +71,16 @@ pub fn values_of_tables_are_identical()
     ensures hazards { HoldsOfIdentical ⟦<Hazard as PartialEq>⟧.eq }
 {}
 
-/// What is written of a zone, a hazard, an event or a category is read back.
+/// The text of a zone, a hazard, a category or an event is read as that value. Events have numbers
+/// 1 to 9,999 and years 2000 to 2099.
 #[tactic(auto, using(crate::proofs::NamesBack::zone_back, crate::proofs::NamesBack::hazard_back, crate::proofs::NamesBack::event_back, crate::proofs::NamesBack::category_back))]
 pub fn names_read_back()
     ensures zones { (z : Place) → IsPlace z → zone_at (zone_text z) ≡ Some z }
-    ensures hazards { (h : Hazard) → IsTrue (are_letters h.phen) → length h.phen ≡ 2 → hazard_at (hazard_code h) ≡ Some h }
+    ensures hazards { (h : Hazard) → IsTrue (are_letters h.phen) → length h.phen ≡ 2 →
+        hazard_at (hazard_code h) ≡ Some h }
     ensures categories { (c : Category) → value_beside category_rows (category_code c) ≡ Some c }
-    ensures events { (e : Event) → IsTrue (are_letters e.hazard.phen) → length e.hazard.phen ≡ 2 → 1 ≤ e.etn → e.etn ≤ 9999 → 2000 ≤ e.year → e.year ≤ 2099 → event_at (event_text e) ≡ Some e }
+    ensures events { (e : Event) →
+        IsTrue (are_letters e.hazard.phen) → length e.hazard.phen ≡ 2 →
+        1 ≤ e.etn → e.etn ≤ 9999 → 2000 ≤ e.year → e.year ≤ 2099 →
+        event_at (event_text e) ≡ Some e }
 {}

@@ -1,4 +1,5 @@
-//! Letters: pairs of them in order, and those of classes, actions, significances, severities and statuses, both ways.
+//! The codes of classes, actions, severities and statuses, both ways; the significance of a letter;
+//! and the order of pairs of letters.
 ghost use Rattle.std.specs.Prelude.{◌≡◌, ◌∷◌, []};
 ghost use Rattle.std.specs.Cmp.Lexicographic.{slice_cmp};
 ghost use Rattle.std.specs.Ordering.{nat_cmp};
@@ -12,7 +13,7 @@ use crate::hazard::Sig;
 use crate::table::find;
 use std::cmp::Ordering;
 
-/// How two pairs of letters stand in order. It stops at the first letter that differs.
+/// Returns how `a` compares with `b`, by the first letter that differs.
 pub(crate) fn letters_in_order(a: [u8; 2], b: [u8; 2]) -> Ordering
     ensures { result ≡ slice_cmp nat_cmp a b }
 {
@@ -24,7 +25,7 @@ pub(crate) fn letters_in_order(a: [u8; 2], b: [u8; 2]) -> Ordering
 }
 
 impl Class {
-    /// The letter of a class.
+    /// Returns the letter of the class.
     pub fn letter(self) -> u8
         ensures { result ∷ [] ≡ class_code self }
     {
@@ -36,7 +37,7 @@ impl Class {
         }
     }
 
-    /// The class of a letter. None exactly where no class has it.
+    /// Returns the class with this letter, or `None` if no class has it.
     pub fn at(text: &[u8]) -> Option<Self>
         ensures { result ≡ value_beside class_rows text.now }
     {
@@ -45,7 +46,7 @@ impl Class {
 }
 
 impl Action {
-    /// The three letters of an action.
+    /// Returns the three letters of the action.
     pub fn code(self) -> [u8; 3]
         ensures { result ≡ action_code self }
     {
@@ -63,7 +64,7 @@ impl Action {
         }
     }
 
-    /// The action of three letters. None exactly where no action has them.
+    /// Returns the action with these three letters, or `None` if no action has them.
     pub fn at(text: &[u8]) -> Option<Self>
         ensures { result ≡ value_beside action_rows text.now }
     {
@@ -72,7 +73,7 @@ impl Action {
 }
 
 impl Severity {
-    /// The character of a severity.
+    /// Returns the character of the severity.
     pub fn letter(self) -> u8
         ensures { result ∷ [] ≡ severity_code self }
     {
@@ -86,7 +87,7 @@ impl Severity {
         }
     }
 
-    /// The severity of a character. None exactly where no severity has it.
+    /// Returns the severity with this character, or `None` if no severity has it.
     pub fn at(text: &[u8]) -> Option<Self>
         ensures { result ≡ value_beside severity_rows text.now }
     {
@@ -95,7 +96,7 @@ impl Severity {
 }
 
 impl Status {
-    /// The two letters of a status.
+    /// Returns the two letters of the status.
     pub fn code(self) -> [u8; 2]
         ensures { result ≡ status_code self }
     {
@@ -107,7 +108,7 @@ impl Status {
         }
     }
 
-    /// The status of two letters. None exactly where no status has them.
+    /// Returns the status with these two letters, or `None` if no status has them.
     pub fn at(text: &[u8]) -> Option<Self>
         ensures { result ≡ value_beside status_rows text.now }
     {
@@ -115,7 +116,7 @@ impl Status {
     }
 }
 
-/// The significance of a letter. None exactly where no significance has it.
+/// Returns the significance with this letter, or `None` if no significance has it.
 pub fn significance_in(text: &[u8]) -> Option<Sig>
     ensures { result ≡ value_beside sig_rows text.now }
 {

@@ -1,4 +1,4 @@
-//! The texts of significances, kinds, zones, hazards and events, both ways.
+//! The texts of significances, kinds, categories, zones, hazards and events, both ways.
 ghost use Rattle.std.specs.Prelude.{◌≡◌, ◌≤◌, ◌++◌, OnOk, IfSome, Some, IsTrue, length};
 ghost use Rattle.hazard_types.specs.Codes.{value_beside};
 ghost use Rattle.hazard_types.specs.Hazards.{hazard_code};
@@ -18,7 +18,7 @@ use crate::zone::{Kind, Zone};
 use std::alloc::Global;
 
 impl Sig {
-    /// The significance of a letter, if it has one.
+    /// Returns the significance with this letter, or `None` if no significance has it.
     pub fn at(letter: u8) -> Option<Self>
         ensures { result ≡ sig_at letter }
     {
@@ -36,7 +36,7 @@ impl Sig {
 }
 
 impl Kind {
-    /// The kind of a letter, if it has one.
+    /// Returns the kind with this letter, or `None` if it is neither `C` nor `Z`.
     pub fn at(letter: u8) -> Option<Self>
         ensures { result ≡ kind_at letter }
     {
@@ -47,7 +47,7 @@ impl Kind {
         }
     }
 
-    /// C or Z.
+    /// Returns the letter of the kind, `C` or `Z`.
     pub fn letter(self) -> u8
         ensures { result ≡ kind_code self }
     {
@@ -59,7 +59,7 @@ impl Kind {
 }
 
 impl Category {
-    /// The three letters of a category.
+    /// Returns the three letters of the category.
     pub fn code(self) -> [u8; 3]
         ensures { result ≡ category_code self }
     {
@@ -75,7 +75,7 @@ impl Category {
         }
     }
 
-    /// The category of three letters, if it has one.
+    /// Returns the category with these three letters, or `None` if no category has them.
     pub fn at(text: &[u8]) -> Option<Self>
         ensures { result ≡ value_beside category_rows text.now }
     {
@@ -83,7 +83,9 @@ impl Category {
     }
 }
 
-/// The zone of a text such as `MDZ003`. None exactly where the bytes are no zone's.
+/// Returns the zone that six characters such as `MDZ003` are, or `None` if the text is no zone.
+///
+/// Source: NWS Instruction 10-1702, UGC.
 #[tactic(auto, unfolding(crate::specs::Names::zone_at))]
 pub fn zone_in(text: &[u8]) -> Option<Zone>
     ensures { result ≡ zone_at text.now }
@@ -101,7 +103,9 @@ pub fn zone_in(text: &[u8]) -> Option<Zone>
     Zone::new([*first, *second], kind, number)
 }
 
-/// The six characters of a zone.
+/// Returns the six characters of a zone, as `MDZ003`.
+///
+/// Source: NWS Instruction 10-1702, UGC.
 pub fn zone_text(zone: &Zone) -> [u8; 6]
     ensures { result ≡ zone_text zone.now }
 {
@@ -117,7 +121,10 @@ pub fn zone_text(zone: &Zone) -> [u8; 6]
     ]
 }
 
-/// The hazard of a text such as `WS.W`. None exactly where the bytes are no hazard's.
+/// Returns the hazard that four characters such as `WS.W` are, or `None` if the text is no hazard.
+/// Any two capital letters are a phenomenon.
+///
+/// Source: NWS Instruction 10-1703, P-VTEC phenomena and significance codes.
 #[tactic(auto, unfolding(crate::specs::Names::hazard_at))]
 pub fn hazard_in(text: &[u8]) -> Option<Hazard>
     ensures { result ≡ hazard_at text.now }
@@ -130,7 +137,9 @@ pub fn hazard_in(text: &[u8]) -> Option<Hazard>
     Some(Hazard { phen, sig })
 }
 
-/// The four characters of a hazard.
+/// Returns the four characters of a hazard, as `WS.W`.
+///
+/// Source: NWS Instruction 10-1703, P-VTEC phenomena and significance codes.
 pub fn hazard_text(hazard: &Hazard) -> [u8; 4]
     ensures { result ≡ hazard_code hazard.now }
 {
@@ -138,7 +147,7 @@ pub fn hazard_text(hazard: &Hazard) -> [u8; 4]
     [first, second, b'.', hazard.sig.letter()]
 }
 
-/// The number that four digits spell. None where a byte is no digit.
+/// Returns the number that four digits are, or `None` if a byte is not a digit.
 #[tactic(auto, unfolding(crate::specs::Names::four_of))]
 fn four_of(a: u8, b: u8, c: u8, d: u8) -> Option<u16>
     ensures value { result ≡ four_of a b c d }
@@ -156,6 +165,7 @@ fn four_of(a: u8, b: u8, c: u8, d: u8) -> Option<u16>
     }
 }
 
+/// Returns the event, or `None` if its number is 0 or its year is not 2000 to 2099.
 fn event_if(hazard: Hazard, etn: u16, year: u16) -> Option<Event>
     ensures { result ≡ event_if hazard etn year }
 {
@@ -166,7 +176,10 @@ fn event_if(hazard: Hazard, etn: u16, year: u16) -> Option<Event>
     }
 }
 
-/// The event of a text such as `WS.W.0001.2018`. None exactly where the bytes are no event's.
+/// Returns the event that fourteen characters such as `WS.W.0001.2018` are, or `None` if the text
+/// is no event. The number is 0001 to 9999, the year 2000 to 2099.
+///
+/// Source: docs/REQUESTS.md, "The requests" (field `event`).
 #[tactic(auto, unfolding(crate::specs::Names::event_at))]
 pub fn event_in(text: &[u8]) -> Option<Event>
     ensures { result ≡ event_at text.now }
@@ -180,7 +193,10 @@ pub fn event_in(text: &[u8]) -> Option<Event>
     event_if(hazard, etn, year)
 }
 
-/// The fourteen characters of an event.
+/// Returns the fourteen characters of an event, as `WS.W.0001.2018`. Number and year are at most
+/// 9,999.
+///
+/// Source: docs/REQUESTS.md, "The requests" (field `event`).
 #[tactic(auto, using(crate::proofs::NamesBack::wide_four), unfolding(crate::specs::Digits::wide))]
 pub fn event_text(event: &Event) -> [u8; 14]
     requires number { event.now.etn ≤ 9999 }
@@ -194,7 +210,12 @@ pub fn event_text(event: &Event) -> [u8; 14]
     text
 }
 
-/// Adds an event: its hazard, its number and its year.
+/// Appends the text of an event, as `WS.W.0001.2018`. A number or a year of 10,000 or more has five
+/// digits.
+///
+/// # Errors
+///
+/// Out of memory.
 pub fn put_event(alloc: Global, out: &mut Text, event: &Event) -> Result<(), Oom>
     ensures { OnOk result (out.new ≡ out.old ++ event_text event.now) }
 {
@@ -205,7 +226,7 @@ pub fn put_event(alloc: Global, out: &mut Text, event: &Event) -> Result<(), Oom
     put_wide(alloc, out, event.year)
 }
 
-/// Whether a hazard is a flood of a river, whose phenomenon is FL.
+/// Whether the hazard is a river flood: its phenomenon is FL.
 pub fn is_flood(hazard: &Hazard) -> bool
     ensures { result ≡ is_flood hazard.now }
 {

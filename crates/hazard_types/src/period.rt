@@ -1,25 +1,29 @@
-//! When an event is in effect.
+//! The begin, the end and the period of an event.
 use crate::minute::Minute;
 
-/// When a forecaster wants an event to begin.
+/// The begin of an event in a request.
 #[derive(Clone, Copy, Debug, PartialEq, Eq)]
 pub enum Begin {
-    /// At the minute at which the product is sent.
+    /// The minute at which the product is sent.
     Now,
+    /// This minute.
     At(Minute),
 }
 
-/// When an event ends. A minute comes before until further notice.
+/// The end of an event. Each minute comes before until further notice.
 #[derive(Clone, Copy, Debug, PartialEq, Eq, PartialOrd, Ord, Hash)]
 pub enum End {
+    /// This minute.
     At(Minute),
     /// Until further notice.
     Ufn,
 }
 
-/// From a minute up to an end.
+/// The time from a begin to an end.
 #[derive(Clone, Copy, Debug, PartialEq, Eq)]
 pub struct Period {
+    /// The first minute.
     pub begin: Minute,
+    /// The end.
     pub end: End,
 }

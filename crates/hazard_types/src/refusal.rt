@@ -1,4 +1,4 @@
-//! Why a request is refused.
+//! The reasons for which a request is refused.
 ghost use Rattle.std.specs.Prelude.{◌≡◌};
 ghost use Rattle.hazard_types.specs.Refusals.{label};
 
@@ -8,134 +8,192 @@ use crate::list::Text;
 use crate::minute::Minute;
 use crate::zone::Zone;
 
-/// Why a request is refused, with what the refusal names. `place` is an intent's in its draft, `at` a byte's in its text.
+/// Why a request is refused, with the values that the reply names. `place` is the place of an
+/// intent in its draft, counted from 0.
+///
+/// Source: docs/REQUESTS.md, "Refusals".
 #[derive(Clone, Debug, Drop, PartialEq, Eq)]
 pub enum Refusal {
-    // Of the link.
+    // Of a call over HTTP.
+    /// The head of the call is not one of HTTP/1.0 or 1.1, or its Content-Length is not one number.
     BadHead,
+    /// The head of the call has more than 8,192 bytes or 32 fields.
     HeadTooLong,
+    /// There is no such path.
     NoRoute,
+    /// The path has another method.
     WrongMethod,
+    /// The head of the call has no Content-Length, or a Transfer-Encoding.
     NoLength,
+    /// The body of the call would have more than 65,536 bytes.
     BodyTooLong,
 
-    // Of the text.
+    // Of the text of a request.
+    /// The line has more than 65,536 bytes.
     LineTooLong,
+    /// The line is not JSON.
     NotJson,
+    /// A field is missing or wrong. `field` is its name, `?` for an unknown key, `.` for a value
+    /// that is not an object.
     WrongShape {
         field: Text,
     },
 
-    // Of the desk and its numbers.
+    // Of the desk, its numbers and the clock.
+    /// The office has no such desk.
     UnknownDesk,
+    /// The number is `last`, that of the desk's last request, and the request is another.
     Reused {
         last: u32,
     },
+    /// The number is below `last`, that of the desk's last request.
     Stale {
         last: u32,
     },
+    /// The number is more than one above `last`, that of the desk's last request.
     Gap {
         last: u32,
     },
+    /// The clock's reading is out of range. `minute` is the reading, in minutes since 2000-01-01
+    /// 00:00 UTC.
     ClockOut {
         minute: i64,
     },
 
-    // Of drafts and of what a request names.
+    // Of drafts and the parts of a request.
+    /// No draft has this number.
     NoDraft,
+    /// Another desk, `owner`, owns the draft.
     NotOwner {
         owner: Desk,
     },
+    /// The draft of another desk cannot be taken before `free_at`.
     StillActive {
         free_at: Minute,
     },
+    /// There are 64 drafts.
     DraftsFull,
+    /// The draft has 64 intents.
     IntentsFull,
+    /// The draft has no intent at this place.
     NoIntent {
         place: u32,
     },
+    /// The office has no such zone.
     UnknownZone {
         zone: Zone,
     },
+    /// The desk issues no such hazard.
     UnknownHazard,
+    /// The hazard is not for zones of this kind.
     WrongZoneKind {
         zone: Zone,
     },
+    /// The hazard is not of the draft's category.
     WrongCategory,
+    /// A text has a byte that is not printable, or `$$` or `&&`. `field` is its name, and `at` the
+    /// index of the byte.
     BadText {
         field: Text,
         at: usize,
     },
+    /// The text `field` has more than 4,096 bytes.
     TextTooLong {
         field: Text,
     },
+    /// There is no zone, a zone occurs twice, or there are more than 600.
     BadZoneList,
+    /// No product has this number.
     NoProduct,
 
-    // Of a product's lines.
+    // Of what a product says, and of the journal.
+    /// The draft has no intent.
     EmptyDraft,
+    /// The event is not open, or the product to be corrected has no line of it.
     NoEvent {
         event: Event,
     },
+    /// The event is not live in the zone. One that is to be ended may be half an hour past its end.
     NotLive {
         event: Event,
         zone: Zone,
     },
+    /// The end of the event in the zone has come, and no line has ended it there.
     LeftBefore {
         event: Event,
         zone: Zone,
     },
+    /// Two intents are on the event in the zone. Routine intents of a hazard are on one event.
     Twice {
         event: Event,
         zone: Zone,
     },
+    /// The intent's begin has passed, or its end is not after both its begin and the current
+    /// minute.
     BadPeriod {
         place: u32,
     },
+    /// The event has begun in the zone, and would begin later.
     BegunMoved {
         event: Event,
         zone: Zone,
     },
+    /// The intent is until further notice, and its hazard must have an end.
     NoOpenEnd {
         place: u32,
     },
+    /// The intent has no H-VTEC values, and its hazard needs them.
     FloodNeeded {
         place: u32,
     },
+    /// The intent has H-VTEC values, and its hazard has none.
     FloodBarred {
         place: u32,
     },
+    /// The event has another location than the intent.
     SiteMoved {
         event: Event,
     },
+    /// Two events of one family would overlap in the zone.
     Conflict {
         zone: Zone,
         first: Event,
         second: Event,
     },
+    /// The number that would be opened is that of `event`, an open one of an earlier year.
     NumberHeld {
         event: Event,
     },
+    /// The hazard has had 9,999 events this year.
     NumbersSpent {
         hazard: Hazard,
     },
+    /// The product is not `last`, the last one of its category.
     NotLast {
         last: u32,
     },
+    /// Nothing in the product's lines is live.
     NothingToCorrect,
+    /// The product has had 24 corrections.
     LettersSpent,
+    /// The product would have more than 2,000 lines; `lines` is how many.
     TooManyLines {
         lines: usize,
     },
+    /// The product would have more than 65,536 bytes; `bytes` is how many.
     TooLong {
         bytes: usize,
     },
+    /// The journal has 8,192 products.
     ProductsFull,
+    /// The journal would have more than 268,435,456 bytes.
     JournalFull,
 }
 
 impl Refusal {
-    /// The code of the rule, its name, and the HTTP status with which a call is refused by it.
+    /// Returns the refusal's code, its name, and the HTTP status of a call that is refused for it.
+    ///
+    /// Source: docs/REQUESTS.md, "Refusals"; docs/DECISIONS.md, "Forms".
     #[tactic(auto, unfolding(crate::specs::Refusals::label))]
     pub fn label(&self) -> (&'static str, &'static str, u16)
         ensures { (result.0.now, result.1.now, result.2) ≡ label self.now }

@@ -1,10 +1,10 @@
-//! Tables of codes, read both ways.
+//! Look-ups in tables of codes, both ways.
 ghost use Rattle.std.specs.Prelude.{◌≡◌, ℕ, List, Some, IfSome, IfNone};
 ghost use Rattle.hazard_types.specs.Codes.{unfilled, filled, value_beside, code_beside, SomeRow, IsTable, HoldsOfIdentical};
 
 use crate::codes::Coded;
 
-/// The code without the blanks at its end.
+/// Returns the bytes of a code before its first blank.
 fn unfilled(code: &[u8; 4]) -> &[u8]
     ensures { result.now ≡ unfilled code.now }
 {
@@ -16,10 +16,14 @@ fn unfilled(code: &[u8; 4]) -> &[u8]
     code
 }
 
-/// The value beside a code, which is given without the blanks at its end. None exactly where no row has the code.
+/// Returns the value of the first row with this code, or `None` if no row has it. `code` is given
+/// without blanks.
+///
+/// Source: docs/DECISIONS.md, "Reading of texts" (codes in look-ups).
 pub fn find<T: Copy, const N: usize>(rows: &[Coded<T>; N], code: &[u8]) -> Option<T>
     ensures value { result ≡ value_beside rows.now code.now }
-    ensures found { IfSome result (λ v. SomeRow (λ row. (unfilled row.code ≡ code.now) × (row.value ≡ v)) rows.now) }
+    ensures found { IfSome result (λ v.
+        SomeRow (λ row. (unfilled row.code ≡ code.now) × (row.value ≡ v)) rows.now) }
     ensures none { IfNone result (¬ SomeRow (λ row. unfilled row.code ≡ code.now) rows.now) }
 {
     for row in rows {
@@ -30,11 +34,12 @@ pub fn find<T: Copy, const N: usize>(rows: &[Coded<T>; N], code: &[u8]) -> Optio
     None
 }
 
-/// The code beside a value, filled up with blanks to four bytes. None exactly where no row has the value.
+/// Returns the code of the first row with this value, with its blanks, or `None` if no row has it.
 pub fn code_of<T: Copy + Eq, const N: usize>(rows: &[Coded<T>; N], value: T) -> Option<[u8; 4]>
     requires { HoldsOfIdentical T.eq }
     ensures value { result ≡ code_beside T.eq rows.now value }
-    ensures found { IfSome result (λ c. SomeRow (λ row. (row.code ≡ c) × (row.value ≡ value)) rows.now) }
+    ensures found { IfSome result (λ c.
+        SomeRow (λ row. (row.code ≡ c) × (row.value ≡ value)) rows.now) }
     ensures none { IfNone result (¬ SomeRow (λ row. row.value ≡ value) rows.now) }
 {
     for row in rows {
@@ -45,8 +50,13 @@ pub fn code_of<T: Copy + Eq, const N: usize>(rows: &[Coded<T>; N], value: T) -> 
     None
 }
 
-/// In a table the two ways are inverse: a code that is found is the code of its value, and the code of a value is found beside it.
+/// In a table a code that is found is the code of its value, and the code of a value finds that
+/// value.
 pub fn tables_are_inverse<T: Copy + Eq>()
-    ensures read_back { (rows : List (Coded T)) (code : List ℕ) (v : T) → HoldsOfIdentical T.eq → IsTable rows → value_beside rows code ≡ Some v → code_beside T.eq rows v ≡ Some (filled code) }
-    ensures written_back { (rows : List (Coded T)) (code : List ℕ) (v : T) → HoldsOfIdentical T.eq → IsTable rows → code_beside T.eq rows v ≡ Some code → value_beside rows (unfilled code) ≡ Some v }
+    ensures read_back { (rows : List (Coded T)) (code : List ℕ) (v : T) →
+        HoldsOfIdentical T.eq → IsTable rows → value_beside rows code ≡ Some v →
+        code_beside T.eq rows v ≡ Some (filled code) }
+    ensures written_back { (rows : List (Coded T)) (code : List ℕ) (v : T) →
+        HoldsOfIdentical T.eq → IsTable rows → code_beside T.eq rows v ≡ Some code →
+        value_beside rows (unfilled code) ≡ Some v }
 {}

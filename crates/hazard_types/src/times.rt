@@ -1,4 +1,4 @@
-//! The times of VTEC texts, both ways.
+//! The times of P-VTEC and H-VTEC strings, both ways.
 ghost use Rattle.std.specs.Prelude.{◌≡◌, ℕ, MatchOption, Option as Maybe};
 ghost use Rattle.hazard_types.specs.Times.{IsTime, time_text, time_at, end_text};
 
@@ -6,7 +6,9 @@ use crate::calendar::{read_stamp, stamp};
 use crate::minute::Minute;
 use crate::period::End;
 
-/// The stamp of a minute, or the zero time.
+/// Returns the stamp of a minute, or `000000T0000Z` for `None`.
+///
+/// Source: NWS Instruction 10-1703, P-VTEC and H-VTEC times.
 pub fn time_text(time: Option<Minute>) -> [u8; 12]
     ensures value { result ≡ time_text time }
     ensures time { IsTime result time }
@@ -28,7 +30,10 @@ fn read_time(text: &[u8]) -> Option<Option<Minute>>
     }
 }
 
-/// The minute of a stamp, or no minute for the zero time. None exactly where the bytes are neither.
+/// Returns the minute of a stamp, `Some(None)` for `000000T0000Z`, or `None` if the text is
+/// neither.
+///
+/// Source: NWS Instruction 10-1703, P-VTEC and H-VTEC times.
 #[tactic(auto, using(crate::proofs::TimeLemmas::time_is_at))]
 pub fn time_in(text: &[u8]) -> Option<Option<Minute>>
     ensures value { result ≡ time_at text.now }
@@ -37,7 +42,9 @@ pub fn time_in(text: &[u8]) -> Option<Option<Minute>>
     read_time(text)
 }
 
-/// The stamp of an end; zeros are until further notice.
+/// Returns the stamp of an end, or `000000T0000Z` for until further notice.
+///
+/// Source: NWS Instruction 10-1703, P-VTEC event beginning and ending times.
 pub fn end_text(end: &End) -> [u8; 12]
     ensures { result ≡ end_text end.now }
 {

@@ -1,4 +1,4 @@
--- Canonical texts: compact JSON. `put` sets a member at its key's place, so keys are in byte order.
+-- Canonical texts of requests: compact JSON. `put` keeps members in byte order of their keys.
 use Rattle.std.specs.Prelude.{ℕ, List, map, Option, Some, None, codes}
 use Rattle.std.specs.Str.Lossy.{utf8_lossy}
 use Rattle.serde_json.specs.Data.{Data, number, unsigned, string, array, object, Items, Members, no_members, put}
@@ -29,11 +29,11 @@ use Rattle.hazard_types.specs.declared.request.Target.TheVariants as target
 use Rattle.hazard_types.specs.declared.request.Texts.{Texts}
 use Rattle.request_json.specs.declared.asked.Asked.{Asked}
 
--- a text; bytes that are no UTF-8 are written lossily
+-- bytes as a string; those that are not UTF-8 become replacement characters
 unfoldable pub as_text : List ℕ → Data
 as_text bytes = string (utf8_lossy bytes)
 
--- members in their places, one behind another
+-- the members with one more, a string
 abbrev pub put_text : List ℕ → List ℕ → Members → Members
 put_text key bytes ms = put key (as_text bytes) ms
 
@@ -54,26 +54,40 @@ zone_data z = as_text (zone_text z)
 abbrev pub zone_items : List Place → Items
 zone_items zs = items_of (map zone_data zs)
 
--- the four texts, also where they are empty
+-- the four texts, empty ones too
 unfoldable pub texts_data : Texts → Data
-texts_data t = object (put_text (codes "details") t.details (put_text (codes "impacts") t.impacts (put_text (codes "area") t.area (put_text (codes "what") t.what no_members))))
+texts_data t =
+    object (put_text (codes "details") t.details
+    (put_text (codes "impacts") t.impacts
+    (put_text (codes "area") t.area
+    (put_text (codes "what") t.what no_members))))
 
 abbrev pub put_source : Flood → Members → Members
-put_source f ms = put_text (codes "cause") f.cause (put_text (codes "severity") (severity_code f.severity) (put_text (codes "site") f.site ms))
+put_source f ms =
+    put_text (codes "cause") f.cause
+    (put_text (codes "severity") (severity_code f.severity)
+    (put_text (codes "site") f.site ms))
 
 abbrev pub put_times : Flood → Members → Members
-put_times f ms = put_text (codes "end") (time_text f.end) (put_text (codes "crest") (time_text f.crest) (put_text (codes "begin") (time_text f.begin) ms))
+put_times f ms =
+    put_text (codes "end") (time_text f.end)
+    (put_text (codes "crest") (time_text f.crest)
+    (put_text (codes "begin") (time_text f.begin) ms))
 
 unfoldable pub flood_data : Flood → Data
-flood_data f = object (put_text (codes "status") (status_code f.status) (put_times f (put_source f no_members)))
+flood_data f =
+    object (put_text (codes "status") (status_code f.status)
+    (put_times f (put_source f no_members)))
 
 unfoldable pub event_texts_data : EventTexts → Data
-event_texts_data t = object (put (codes "texts") (texts_data t.texts) (put_text (codes "event") (event_text t.event) no_members))
+event_texts_data t =
+    object (put (codes "texts") (texts_data t.texts)
+    (put_text (codes "event") (event_text t.event) no_members))
 
 abbrev pub event_texts_items : List EventTexts → Items
 event_texts_items ts = items_of (map event_texts_data ts)
 
--- flood values are left out where there are none
+-- H-VTEC values, if there are some
 abbrev pub put_flood : Option Flood → Members → Members
 put_flood None ms = ms
 put_flood (Some f) ms = put (codes "flood") (flood_data f) ms
@@ -83,7 +97,9 @@ put_target (target.Fresh h) ms = put_text (codes "hazard") (hazard_code h) ms
 put_target (target.Join e) ms = put_text (codes "event") (event_text e) ms
 
 abbrev pub put_zones_texts : List Place → Texts → Members → Members
-put_zones_texts zones texts ms = put (codes "texts") (texts_data texts) (put (codes "zones") (array (zone_items zones)) ms)
+put_zones_texts zones texts ms =
+    put (codes "texts") (texts_data texts)
+    (put (codes "zones") (array (zone_items zones)) ms)
 
 unfoldable pub put_put : PutPart → Members → Members
 put_put p ms =
@@ -94,12 +110,14 @@ put_put p ms =
     put_target p.target ms))))
 
 unfoldable pub put_event_part : EventPart → Members → Members
-put_event_part p ms = put_zones_texts p.zones p.texts (put_text (codes "event") (event_text p.event) ms)
+put_event_part p ms =
+    put_zones_texts p.zones p.texts (put_text (codes "event") (event_text p.event) ms)
 
 unfoldable pub put_routine : RoutinePart → Members → Members
-put_routine p ms = put_zones_texts p.zones p.texts (put_text (codes "hazard") (hazard_code p.hazard) ms)
+put_routine p ms =
+    put_zones_texts p.zones p.texts (put_text (codes "hazard") (hazard_code p.hazard) ms)
 
--- with what the request does
+-- the members with `do`
 abbrev pub put_do : List ℕ → Members → Members
 put_do word ms = put_text (codes "do") word ms
 
@@ -112,7 +130,7 @@ put_event_do word p ms = put_event_part p (put_do word ms)
 abbrev pub put_routine_do : RoutinePart → Members → Members
 put_routine_do p ms = put_routine p (put_do (codes "routine") ms)
 
--- a step of a draft: its request without desk, number and draft
+-- an intent: its request without desk, number and draft
 unfoldable pub put_intent : Intent → Members → Members
 put_intent (intent.Put p) ms = put_put_do (codes "put") p ms
 put_intent (intent.Finish p) ms = put_event_do (codes "end") p ms
@@ -137,9 +155,11 @@ put_drop n place ms = put_number (codes "place") place (put_draft_do (codes "dro
 abbrev pub put_open : Category → Members → Members
 put_open c ms = put_text (codes "category") (category_code c) (put_do (codes "open") ms)
 
--- the texts of a correction are an array, also where there are none
+-- the texts of a correction are an array, empty if there are none
 abbrev pub put_correct : ℕ → List EventTexts → Members → Members
-put_correct n ts ms = put (codes "texts") (array (event_texts_items ts)) (put_number (codes "product") n (put_do (codes "correct") ms))
+put_correct n ts ms =
+    put (codes "texts") (array (event_texts_items ts))
+    (put_number (codes "product") n (put_do (codes "correct") ms))
 
 -- a request without desk and number
 unfoldable pub put_request : Request → Members → Members
@@ -156,7 +176,9 @@ put_request (request.Send n) ms = put_draft_do (codes "send") n ms
 put_request (request.Correct n ts) ms = put_correct n ts ms
 
 unfoldable pub asked_members : Asked → Members
-asked_members a = put_number (codes "seq") a.seq (put_text (codes "desk") a.desk (put_request a.request no_members))
+asked_members a =
+    put_number (codes "seq") a.seq
+    (put_text (codes "desk") a.desk (put_request a.request no_members))
 
 -- the canonical text of a request
 unfoldable pub asked_text : Asked → List ℕ

@@ -1,4 +1,4 @@
--- The values of fields, as JSON has them.
+-- The values that fields of JSON objects have, if they are right.
 use Rattle.std.specs.Prelude.{ℕ, ◌^◌, List, [], ◌∷◌, nat_le, nat_lt, if◌then◌else◌, Option, Some, None, option_map, option_and_then, codes}
 use Rattle.std.specs.Str.{bytes_eq}
 use Rattle.serde_json.specs.Data.{Data, Items, no_items, item}
@@ -24,13 +24,15 @@ use Rattle.request_json.specs.Json.{text_at}
 use Rattle.request_json.specs.Keys.{all_known}
 use Rattle.request_json.specs.declared.keys.Keys.TheVariants as keys
 
--- now, or a stamp
+-- a begin: `now`, or a stamp
 abbrev pub begin_at : List ℕ → Option Begin
-begin_at bs = if bytes_eq bs (codes "now") then Some begin.Now else option_map (λ m. begin.At m) (stamp_at bs)
+begin_at bs =
+    if bytes_eq bs (codes "now") then Some begin.Now else option_map (λ m. begin.At m) (stamp_at bs)
 
--- until further notice, or a stamp
+-- an end: `ufn`, or a stamp
 abbrev pub end_at : List ℕ → Option End
-end_at bs = if bytes_eq bs (codes "ufn") then Some end.Ufn else option_map (λ m. end.At m) (stamp_at bs)
+end_at bs =
+    if bytes_eq bs (codes "ufn") then Some end.Ufn else option_map (λ m. end.At m) (stamp_at bs)
 
 abbrev pub desk_named : List ℕ → Option (List ℕ)
 desk_named bs = if is_desk_name bs then Some bs else None
@@ -40,18 +42,21 @@ abbrev pub if_small : ℕ → Option ℕ
 if_small n = if nat_lt n (2 ^ 32) then Some n else None
 
 abbrev pub number_at : List ℕ → Data → Option ℕ
-number_at key d = option_and_then if_small (option_and_then as_u64 (option_and_then as_number (get key d)))
+number_at key d =
+    option_and_then if_small (option_and_then as_u64 (option_and_then as_number (get key d)))
 
--- which is not 0
+-- a number that is not 0
 abbrev pub if_counted : ℕ → Option ℕ
 if_counted n = if nat_le 1 n then Some n else None
 
--- the zones of an array of texts, if each is one
+-- the zones of an array, if each item is a zone
 abbrev pub zones_of : Items → Option (List Place)
 zones_of no_items = Some []
-zones_of (item d ds) = option_and_then (λ z. option_map (λ zs. z ∷ zs) (zones_of ds)) (option_and_then zone_at (as_str d))
+zones_of (item d ds) =
+    option_and_then (λ z. option_map (λ zs. z ∷ zs) (zones_of ds))
+    (option_and_then zone_at (as_str d))
 
--- ---- flood values
+-- ---- H-VTEC values
 
 abbrev pub site_in : Data → Option (List ℕ)
 site_in d = option_and_then location_at (text_at (codes "site") d)
@@ -59,7 +64,7 @@ site_in d = option_and_then location_at (text_at (codes "site") d)
 abbrev pub severity_in : Data → Option Severity
 severity_in d = option_and_then (value_beside severity_rows) (text_at (codes "severity") d)
 
--- one of the seven causes that the desk writes
+-- one of the seven causes that a request may name
 abbrev pub cause_in : Data → Option (List ℕ)
 cause_in d = option_and_then (value_beside cause_rows) (text_at (codes "cause") d)
 
@@ -69,16 +74,21 @@ time_in key d = option_and_then time_at (text_at key d)
 abbrev pub status_in : Data → Option Status
 status_in d = option_and_then (value_beside status_rows) (text_at (codes "status") d)
 
--- the values of an object, where each is there
+-- the values of an object, if each is there and right
 unfoldable pub values_in : Data → Option Flood
 values_in d =
-    option_and_then (λ site. option_and_then (λ severity. option_and_then (λ cause. option_and_then (λ begin. option_and_then (λ crest. option_and_then (λ end. option_map (λ status.
+    option_and_then (λ site. option_and_then (λ severity. option_and_then (λ cause.
+    option_and_then (λ begin. option_and_then (λ crest. option_and_then (λ end.
+    option_map (λ status.
     record { site = site; severity = severity; cause = cause; begin = begin; crest = crest; end = end; status = status })
-    (status_in d)) (time_in (codes "end") d)) (time_in (codes "crest") d)) (time_in (codes "begin") d)) (cause_in d)) (severity_in d)) (site_in d)
+    (status_in d))
+    (time_in (codes "end") d)) (time_in (codes "crest") d)) (time_in (codes "begin") d))
+    (cause_in d)) (severity_in d)) (site_in d)
 
--- and no other key is
+-- the same, if no other key is there
 unfoldable pub flood_of : Data → Option Flood
-flood_of d = option_and_then (λ ms. if all_known keys.Flood ms then values_in d else None) (as_object d)
+flood_of d =
+    option_and_then (λ ms. if all_known keys.Flood ms then values_in d else None) (as_object d)
 
 -- ---- texts
 
@@ -92,20 +102,26 @@ free_text key d = text_or_empty (get key d)
 
 unfoldable pub four_texts : Data → Option Texts
 four_texts d =
-    option_and_then (λ what. option_and_then (λ area. option_and_then (λ impacts. option_map (λ details.
+    option_and_then (λ what. option_and_then (λ area.
+    option_and_then (λ impacts. option_map (λ details.
     record { what = what; area = area; impacts = impacts; details = details })
-    (free_text (codes "details") d)) (free_text (codes "impacts") d)) (free_text (codes "area") d)) (free_text (codes "what") d)
+    (free_text (codes "details") d)) (free_text (codes "impacts") d))
+    (free_text (codes "area") d)) (free_text (codes "what") d)
 
 unfoldable pub texts_of : Data → Option Texts
-texts_of d = option_and_then (λ ms. if all_known keys.Texts ms then four_texts d else None) (as_object d)
+texts_of d =
+    option_and_then (λ ms. if all_known keys.Texts ms then four_texts d else None) (as_object d)
 
--- an event with its texts, both there
+-- an event with its texts, if both are there and no other key is
 unfoldable pub event_texts_of : Data → Option EventTexts
 event_texts_of d = option_and_then (λ ms. if all_known keys.EventTexts ms
-    then option_and_then (λ event. option_map (λ texts. record { event = event; texts = texts }) (option_and_then texts_of (get (codes "texts") d))) (option_and_then event_at (text_at (codes "event") d))
+    then option_and_then (λ event. option_map (λ texts. record { event = event; texts = texts })
+    (option_and_then texts_of (get (codes "texts") d)))
+    (option_and_then event_at (text_at (codes "event") d))
     else None) (as_object d)
 
--- those of an array, if each is one
+-- the events with texts of an array, if each item is one
 abbrev pub each_event_texts : Items → Option (List EventTexts)
 each_event_texts no_items = Some []
-each_event_texts (item d ds) = option_and_then (λ t. option_map (λ ts. t ∷ ts) (each_event_texts ds)) (event_texts_of d)
+each_event_texts (item d ds) =
+    option_and_then (λ t. option_map (λ ts. t ∷ ts) (each_event_texts ds)) (event_texts_of d)

@@ -1,4 +1,5 @@
--- Which JSON values are requests, and what they ask. The first field that is missing or wrong is told, and an unknown key last.
+-- Which JSON values are requests, and which requests they are. The first field that is missing or
+-- wrong is named, and an unknown key last.
 use Rattle.std.specs.Prelude.{ℕ, not, Bool, false, List, [], if◌then◌else◌, Option, Some, None, option_map, option_and_then, codes, Result, Ok, Err}
 use Rattle.std.specs.Option.{ok_or}
 use Rattle.std.specs.Str.{bytes_eq}
@@ -34,7 +35,7 @@ use Rattle.request_json.specs.declared.keys.Keys.TheVariants as keys
 use Rattle.request_json.specs.declared.keys.Verb.{Verb}
 use Rattle.request_json.specs.declared.keys.Verb.TheVariants as verb
 
--- the field is there and right, or its name is told
+-- a field's value, or its name if it is missing or wrong
 abbrev pub given : {X : Type 0} → Option X → List ℕ → Result X Refusal
 given o name = ok_or o (WrongShape name)
 
@@ -48,7 +49,9 @@ abbrev pub verb_field : Data → Result Verb Refusal
 verb_field d = given (option_and_then verb_at (text_at (codes "do") d)) (codes "do")
 
 abbrev pub category_field : Data → Result Category Refusal
-category_field d = given (option_and_then (value_beside category_rows) (text_at (codes "category") d)) (codes "category")
+category_field d =
+    given (option_and_then (value_beside category_rows) (text_at (codes "category") d))
+    (codes "category")
 
 abbrev pub number_field : List ℕ → Data → Result ℕ Refusal
 number_field key d = given (number_at key d) key
@@ -60,7 +63,9 @@ abbrev pub event_field : Data → Result Event Refusal
 event_field d = given (option_and_then event_at (text_at (codes "event") d)) (codes "event")
 
 abbrev pub zones_field : Data → Result (List Place) Refusal
-zones_field d = given (option_and_then zones_of (option_and_then as_array (get (codes "zones") d))) (codes "zones")
+zones_field d =
+    given (option_and_then zones_of (option_and_then as_array (get (codes "zones") d)))
+    (codes "zones")
 
 abbrev pub begin_field : Data → Result Begin Refusal
 begin_field d = given (option_and_then begin_at (text_at (codes "begin") d)) (codes "begin")
@@ -68,7 +73,7 @@ begin_field d = given (option_and_then begin_at (text_at (codes "begin") d)) (co
 abbrev pub end_field : Data → Result End Refusal
 end_field d = given (option_and_then end_at (text_at (codes "end") d)) (codes "end")
 
--- flood values may be absent
+-- H-VTEC values may be absent
 abbrev pub flood_or_none : Option Data → Option (Option Flood)
 flood_or_none None = Some None
 flood_or_none (Some d) = option_map (λ flood. Some flood) (flood_of d)
@@ -105,7 +110,7 @@ target_beside (Some h) (Some e) d = Err (WrongShape (codes "hazard"))
 abbrev pub target_field : Data → Result Target Refusal
 target_field d = target_beside (get (codes "hazard") d) (get (codes "event") d) d
 
--- what is put where, when, and with which texts
+-- the zones, the period, the H-VTEC values and the texts of a put
 unfoldable pub put_on : Target → Data → Result PutPart Refusal
 put_on t d =
     zones_field d >>= λ zones.
@@ -135,13 +140,14 @@ routine_part d =
     texts_field d >>= λ texts.
     Ok (record { hazard = hazard; zones = zones; texts = texts })
 
--- the further fields of a request that names a draft
+-- the fields of a request on a draft that follow `draft`
 unfoldable pub draft_in : Verb → ℕ → Data → Result Request Refusal
 draft_in verb.Put draft d = put_part d >>= λ part. Ok (request.Put draft part)
 draft_in verb.End draft d = event_part d >>= λ part. Ok (request.Finish draft part)
 draft_in verb.Restate draft d = event_part d >>= λ part. Ok (request.Restate draft part)
 draft_in verb.Routine draft d = routine_part d >>= λ part. Ok (request.Routine draft part)
-draft_in verb.Drop draft d = number_field (codes "place") d >>= λ place. Ok (request.Drop draft place)
+draft_in verb.Drop draft d =
+    number_field (codes "place") d >>= λ place. Ok (request.Drop draft place)
 draft_in verb.Take draft d = Ok (request.Take draft)
 draft_in verb.Discard draft d = Ok (request.Discard draft)
 draft_in v draft d = Ok (request.Send draft)
@@ -149,14 +155,17 @@ draft_in v draft d = Ok (request.Send draft)
 unfoldable pub draft_request : Verb → Data → Result Request Refusal
 draft_request v d = number_field (codes "draft") d >>= λ draft. draft_in v draft d
 
--- the further fields of a request, in their order
+-- the fields of a request that follow `do`, in their order
 unfoldable pub request_in : Verb → Data → Result Request Refusal
 request_in verb.Open d = category_field d >>= λ category. Ok (request.Begin category)
 request_in verb.Issue d = issue_part d >>= λ part. Ok (request.Issue part)
-request_in verb.Correct d = number_field (codes "product") d >>= λ product. event_texts_field d >>= λ texts. Ok (request.Correct product texts)
+request_in verb.Correct d =
+    number_field (codes "product") d >>= λ product.
+    event_texts_field d >>= λ texts.
+    Ok (request.Correct product texts)
 request_in v d = draft_request v d
 
--- a request whole: its desk, its number and what it does come first, and no other keys are there
+-- a whole request: its desk, its number and what it does come first, and it has no other keys
 unfoldable pub asked_in : Data → Result Asked Refusal
 asked_in d =
     given (as_object d) (codes ".") >>= λ ms.
@@ -164,9 +173,10 @@ asked_in d =
     seq_field d >>= λ seq.
     verb_field d >>= λ v.
     request_in v d >>= λ r.
-    if all_known (keys_of v) ms then Ok (record { desk = desk; seq = seq; request = r }) else Err (WrongShape (codes "?"))
+    if all_known (keys_of v) ms then Ok (record { desk = desk; seq = seq; request = r })
+    else Err (WrongShape (codes "?"))
 
--- what the bytes ask, or the first fault
+-- the request that the bytes are, or the first fault
 unfoldable pub asked_of : List ℕ → Result Asked Refusal
 asked_of bytes = ok_or (json_of bytes) NotJson >>= asked_in
 

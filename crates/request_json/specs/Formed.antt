@@ -1,4 +1,4 @@
--- The form of what is read: the ranges of a request's values, and that its texts are UTF-8.
+-- The form of a request: its values are in their ranges, and its texts are UTF-8.
 use Rattle.std.specs.Prelude.{◌≡◌, ◌<◌, ◌≤◌, ◌^◌, ℕ, IsTrue, IsUtf8, length, Some, IfSome}
 use Rattle.std.specs.List.{All}
 use Rattle.hazard_types.specs.Characters.{is_location}
@@ -32,11 +32,11 @@ IsMinute m = m < 52596000
 abbrev pub IsNumber : ℕ → Type 0
 IsNumber n = n < 2 ^ 32
 
--- a phenomenon of two capital letters
+-- a hazard whose phenomenon is two capital letters
 abbrev pub IsHazard : Hazard → Type 0
 IsHazard h = IsTrue (are_letters h.phen) × (length h.phen ≡ 2)
 
--- a number of 0001 to 9999, and a year of 2000 to 2099
+-- an event with a number of 0001 to 9999 and a year of 2000 to 2099
 pub record IsEvent (e : Event) : Type 0 where
   pub hazard : IsHazard e.hazard
   pub first_number : 1 ≤ e.etn
@@ -54,7 +54,7 @@ pub record AreEventTexts (t : EventTexts) : Type 0 where
   pub event : IsEvent t.event
   pub texts : AreTexts t.texts
 
--- five of A to Z and 0 to 9, one of the causes that are written, and minutes where there are any
+-- a location of five of A to Z and 0 to 9, one of the written causes, and times of 2000 to 2099
 pub record AreFloodValues (f : Flood) : Type 0 where
   pub site : IsTrue (is_location f.site)
   pub cause : value_beside cause_rows f.cause ≡ Some f.cause
@@ -82,7 +82,7 @@ pub record IsPutPart (p : PutPart) : Type 0 where
   pub flood : IfSome p.flood AreFloodValues
   pub texts : AreTexts p.texts
 
--- an issue is of a hazard, and joins no event
+-- an issue opens an event, and joins none
 abbrev pub IsFresh : Target → Type 0
 IsFresh (target.Fresh h) = Unit {0}
 IsFresh (target.Join e) = ⊥
@@ -114,7 +114,7 @@ HasRequestForm (request.Discard n) = IsNumber n
 HasRequestForm (request.Send n) = IsNumber n
 HasRequestForm (request.Correct n ts) = IsNumber n × All AreEventTexts ts
 
--- the form of a request whole
+-- the form of a whole request
 pub record HasForm (a : Asked) : Type 0 where
   pub desk : IsTrue (is_desk_name a.desk)
   pub counted : 1 ≤ a.seq

@@ -1,4 +1,4 @@
--- The keys of requests, and of what stands inside them.
+-- The keys of requests, and of the objects in them.
 use Rattle.std.specs.Prelude.{ℕ, ◌&&◌, ◌||◌, Bool, true, List, if◌then◌else◌, Option, Some, None, codes}
 use Rattle.std.specs.Str.{bytes_eq}
 use Rattle.serde_json.specs.Data.{Members, no_members, member}
@@ -7,7 +7,7 @@ use Rattle.request_json.specs.declared.keys.Keys.TheVariants as keys
 use Rattle.request_json.specs.declared.keys.Verb.{Verb}
 use Rattle.request_json.specs.declared.keys.Verb.TheVariants as verb
 
--- what a request does, as it is written
+-- the value of `do`
 abbrev pub verb_at : List ℕ → Option Verb
 verb_at w =
     if bytes_eq w (codes "open") then Some verb.Open else
@@ -24,35 +24,51 @@ verb_at w =
 
 -- the keys of all requests
 abbrev pub is_common : List ℕ → Bool
-is_common key = bytes_eq key (codes "desk") || bytes_eq key (codes "seq") || bytes_eq key (codes "do")
+is_common key =
+    bytes_eq key (codes "desk") || bytes_eq key (codes "seq") || bytes_eq key (codes "do")
 
--- when, with which flood values and texts an event is put into zones
+-- the keys of all requests that put an event into zones
 abbrev pub is_of_put : List ℕ → Bool
-is_of_put key = bytes_eq key (codes "zones") || bytes_eq key (codes "begin") || bytes_eq key (codes "end") || bytes_eq key (codes "flood") || bytes_eq key (codes "texts")
+is_of_put key =
+    bytes_eq key (codes "zones") || bytes_eq key (codes "begin") || bytes_eq key (codes "end")
+    || bytes_eq key (codes "flood") || bytes_eq key (codes "texts")
 
--- the keys of an issue, beside the common ones
+-- the keys of an issue, apart from the common ones
 abbrev pub is_of_issue : List ℕ → Bool
 is_of_issue key = bytes_eq key (codes "hazard") || is_of_put key
 
--- those of a put into a draft
+-- the keys of a put into a draft, apart from the common ones
 abbrev pub is_of_draft_put : List ℕ → Bool
-is_of_draft_put key = bytes_eq key (codes "draft") || (bytes_eq key (codes "hazard") || (bytes_eq key (codes "event") || is_of_put key))
+is_of_draft_put key =
+    bytes_eq key (codes "draft")
+    || (bytes_eq key (codes "hazard") || (bytes_eq key (codes "event") || is_of_put key))
 
--- those of an event's end or restatement in a draft
+-- the keys of `end` and `restate`, apart from the common ones
 abbrev pub is_of_event : List ℕ → Bool
-is_of_event key = bytes_eq key (codes "draft") || (bytes_eq key (codes "event") || (bytes_eq key (codes "zones") || bytes_eq key (codes "texts")))
+is_of_event key =
+    bytes_eq key (codes "draft")
+    || (bytes_eq key (codes "event")
+    || (bytes_eq key (codes "zones") || bytes_eq key (codes "texts")))
 
--- those of a routine product in a draft
+-- the keys of `routine`, apart from the common ones
 abbrev pub is_of_routine : List ℕ → Bool
-is_of_routine key = bytes_eq key (codes "draft") || (bytes_eq key (codes "hazard") || (bytes_eq key (codes "zones") || bytes_eq key (codes "texts")))
+is_of_routine key =
+    bytes_eq key (codes "draft")
+    || (bytes_eq key (codes "hazard")
+    || (bytes_eq key (codes "zones") || bytes_eq key (codes "texts")))
 
--- those of flood values
+-- the keys of H-VTEC values
 abbrev pub is_of_flood : List ℕ → Bool
-is_of_flood key = bytes_eq key (codes "site") || bytes_eq key (codes "severity") || bytes_eq key (codes "cause") || bytes_eq key (codes "begin") || bytes_eq key (codes "crest") || bytes_eq key (codes "end") || bytes_eq key (codes "status")
+is_of_flood key =
+    bytes_eq key (codes "site") || bytes_eq key (codes "severity") || bytes_eq key (codes "cause")
+    || bytes_eq key (codes "begin") || bytes_eq key (codes "crest") || bytes_eq key (codes "end")
+    || bytes_eq key (codes "status")
 
--- those of texts
+-- the keys of texts
 abbrev pub is_of_texts : List ℕ → Bool
-is_of_texts key = bytes_eq key (codes "what") || bytes_eq key (codes "area") || bytes_eq key (codes "impacts") || bytes_eq key (codes "details")
+is_of_texts key =
+    bytes_eq key (codes "what") || bytes_eq key (codes "area") || bytes_eq key (codes "impacts")
+    || bytes_eq key (codes "details")
 
 unfoldable pub has_key : Keys → List ℕ → Bool
 has_key keys.Open key = is_common key || bytes_eq key (codes "category")
@@ -61,14 +77,16 @@ has_key keys.Training key = bytes_eq key (codes "do") || is_of_issue key
 has_key keys.Put key = is_common key || is_of_draft_put key
 has_key keys.Event key = is_common key || is_of_event key
 has_key keys.Routine key = is_common key || is_of_routine key
-has_key keys.Drop key = is_common key || (bytes_eq key (codes "draft") || bytes_eq key (codes "place"))
+has_key keys.Drop key =
+    is_common key || (bytes_eq key (codes "draft") || bytes_eq key (codes "place"))
 has_key keys.Draft key = is_common key || bytes_eq key (codes "draft")
-has_key keys.Correct key = is_common key || (bytes_eq key (codes "product") || bytes_eq key (codes "texts"))
+has_key keys.Correct key =
+    is_common key || (bytes_eq key (codes "product") || bytes_eq key (codes "texts"))
 has_key keys.Flood key = is_of_flood key
 has_key keys.Texts key = is_of_texts key
 has_key keys.EventTexts key = bytes_eq key (codes "event") || bytes_eq key (codes "texts")
 
--- the keys of a request
+-- the keys of a request with a verb
 abbrev pub keys_of : Verb → Keys
 keys_of verb.Open = keys.Open
 keys_of verb.Issue = keys.Issue

@@ -1,4 +1,4 @@
--- Compact texts of JSON, laid piece by piece.
+-- Pieces of compact JSON, of which the texts of issues and replies are made.
 use Rattle.std.specs.Prelude.{◌==◌, ◌&&◌, not, ℕ, nat_le, nat_lt, Bool, List, ◌++◌, codes}
 use Rattle.serde_json.specs.Data.{number, unsigned, array}
 use Rattle.serde_json.specs.Written.{compact_text}
@@ -15,7 +15,7 @@ use Rattle.hazard_types.specs.declared.request.Texts.{Texts}
 use Rattle.request_json.specs.Canonical.{as_text, texts_data, zone_items}
 use Rattle.request_json.specs.Replies.{event_items}
 
--- a byte that stands for itself in a string
+-- a byte that strings have as it is: a printable one, but no quote and no backslash
 abbrev pub is_plain : ℕ → Bool
 is_plain b = nat_le 32 b && nat_lt b 127 && not (b == 34) && not (b == 92)
 
@@ -45,35 +45,47 @@ end_bytes (end.At m) = stamp_of m
 -- ---- the four texts
 
 unfoldable pub area_details : Texts → List ℕ
-area_details t = codes "{\"area\":" ++ (string_text t.area ++ (codes ",\"details\":" ++ string_text t.details))
+area_details t =
+    codes "{\"area\":" ++ (string_text t.area ++ (codes ",\"details\":" ++ string_text t.details))
 
 unfoldable pub impacts_what : Texts → List ℕ
-impacts_what t = codes ",\"impacts\":" ++ (string_text t.impacts ++ (codes ",\"what\":" ++ (string_text t.what ++ codes "}")))
+impacts_what t =
+    codes ",\"impacts\":"
+    ++ (string_text t.impacts ++ (codes ",\"what\":" ++ (string_text t.what ++ codes "}")))
 
--- ---- an issue of a new event without flood values
+-- ---- an issue of a new event without H-VTEC values
 
 unfoldable pub begin_desk : Begin → List ℕ → List ℕ
-begin_desk b desk = codes "{\"begin\":" ++ (string_text (begin_bytes b) ++ (codes ",\"desk\":" ++ string_text desk))
+begin_desk b desk =
+    codes "{\"begin\":" ++ (string_text (begin_bytes b) ++ (codes ",\"desk\":" ++ string_text desk))
 
 unfoldable pub do_end : List ℕ → End → List ℕ
-do_end word e = codes ",\"do\":" ++ (string_text word ++ (codes ",\"end\":" ++ string_text (end_bytes e)))
+do_end word e =
+    codes ",\"do\":" ++ (string_text word ++ (codes ",\"end\":" ++ string_text (end_bytes e)))
 
 unfoldable pub hazard_seq : Hazard → ℕ → List ℕ
-hazard_seq h seq = codes ",\"hazard\":" ++ (string_text (hazard_code h) ++ (codes ",\"seq\":" ++ whole_text seq))
+hazard_seq h seq =
+    codes ",\"hazard\":" ++ (string_text (hazard_code h) ++ (codes ",\"seq\":" ++ whole_text seq))
 
 unfoldable pub texts_zones : Texts → List Place → List ℕ
-texts_zones t zones = codes ",\"texts\":" ++ (texts_text t ++ (codes ",\"zones\":" ++ (zones_text zones ++ codes "}")))
+texts_zones t zones =
+    codes ",\"texts\":"
+    ++ (texts_text t ++ (codes ",\"zones\":" ++ (zones_text zones ++ codes "}")))
 
 -- ---- replies
 
 unfoldable pub draft_ok : ℕ → List ℕ → List ℕ
-draft_ok draft word = codes "{\"draft\":" ++ (whole_text draft ++ (codes ",\"ok\":" ++ string_text word))
+draft_ok draft word =
+    codes "{\"draft\":" ++ (whole_text draft ++ (codes ",\"ok\":" ++ string_text word))
 
 unfoldable pub place_end : ℕ → List ℕ
 place_end place = codes ",\"place\":" ++ (whole_text place ++ codes "}")
 
 unfoldable pub events_ok : List Event → List ℕ
-events_ok events = codes "{\"events\":" ++ (events_text events ++ (codes ",\"ok\":" ++ string_text (codes "send")))
+events_ok events =
+    codes "{\"events\":" ++ (events_text events ++ (codes ",\"ok\":" ++ string_text (codes "send")))
 
 unfoldable pub product_time : ℕ → ℕ → List ℕ
-product_time product time = codes ",\"product\":" ++ (whole_text product ++ (codes ",\"time\":" ++ (string_text (stamp_of time) ++ codes "}")))
+product_time product time =
+    codes ",\"product\":"
+    ++ (whole_text product ++ (codes ",\"time\":" ++ (string_text (stamp_of time) ++ codes "}")))

@@ -34,12 +34,14 @@ abbrev pub put_event_zone : Event → Place → Members → Members
 put_event_zone e z ms = put_text (codes "event") (event_text e) (put_zone z ms)
 
 abbrev pub put_clash : Place → Event → Event → Members → Members
-put_clash zone first second ms = put_text (codes "second") (event_text second) (put_text (codes "first") (event_text first) (put_zone zone ms))
+put_clash zone first second ms =
+    put_text (codes "second") (event_text second)
+    (put_text (codes "first") (event_text first) (put_zone zone ms))
 
 abbrev pub put_place_in : List ℕ → ℕ → Members → Members
 put_place_in field at ms = put_number (codes "at") at (put_text (codes "field") field ms)
 
--- the values of a refusal, by name
+-- the values of a refusal, each under its name
 unfoldable pub put_values : Refusal → Members → Members
 put_values (refusal.WrongShape field) ms = put_text (codes "field") field ms
 put_values (refusal.Reused last) ms = put_number (codes "last") last ms
@@ -71,7 +73,7 @@ put_values (refusal.TooManyLines lines) ms = put_number (codes "lines") lines ms
 put_values (refusal.TooLong bytes) ms = put_number (codes "bytes") bytes ms
 put_values r ms = ms
 
--- a code and a name
+-- the members of a code and a name
 abbrev pub labelled : List ℕ × List ℕ → Members
 labelled l = put_text (codes "rule") l.1 (put_text (codes "no") l.0 no_members)
 
@@ -80,7 +82,7 @@ refusal_text r = compact_text (object (put_values r (labelled (label r))))
 
 -- ---- replies
 
--- the word of the request
+-- the value of `do` of the request
 abbrev pub word_code : Word → List ℕ
 word_code word.Begun = codes "open"
 word_code word.Dropped = codes "drop"
@@ -101,14 +103,17 @@ put_sent s ms =
     put_text (codes "ok") (codes "send") ms)))
 
 unfoldable pub put_reply : Reply → Members → Members
-put_reply (reply.Draft w n) ms = put_text (codes "ok") (word_code w) (put_number (codes "draft") n ms)
-put_reply (reply.Placed n place) ms = put_text (codes "ok") (codes "put") (put_number (codes "place") place (put_number (codes "draft") n ms))
+put_reply (reply.Draft w n) ms =
+    put_text (codes "ok") (word_code w) (put_number (codes "draft") n ms)
+put_reply (reply.Placed n place) ms =
+    put_text (codes "ok") (codes "put")
+    (put_number (codes "place") place (put_number (codes "draft") n ms))
 put_reply (reply.Sent s) ms = put_sent s ms
 
 unfoldable pub reply_text : Reply → List ℕ
 reply_text r = compact_text (object (put_reply r no_members))
 
--- what is answered where the disk fails, and where memory runs out
+-- the replies if the disk fails, and if memory runs out
 abbrev pub disk_fault_text : List ℕ
 disk_fault_text = codes "{\"no\":\"D1\",\"rule\":\"DiskFault\"}"
 

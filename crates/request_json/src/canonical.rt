@@ -1,4 +1,4 @@
-//! Canonical texts of requests.
+//! Canonical texts of requests and intents: compact JSON, keys in byte order.
 ghost use Rattle.std.specs.Prelude.{◌≡◌, None, IfOk, IfSome, OnOk, map, codes};
 ghost use Rattle.hazard_types.specs.declared.request.Request.TheVariants.{Issue};
 ghost use Rattle.hazard_types.specs.declared.request.Target.TheVariants.{Fresh};
@@ -16,9 +16,10 @@ use hazard_types::{
 use serde_json::{Map, Value};
 use std::alloc::Global;
 
-/// Sets the begin.
+/// Sets the member `begin`.
 fn put_begin(alloc: Global, members: &mut Members, begin: &Begin) -> Result<(), Oom>
-    ensures { OnOk result (members_view members.new.entries ≡ put_begin begin.now (members_view members.old.entries)) }
+    ensures { OnOk result (members_view members.new.entries
+        ≡ put_begin begin.now (members_view members.old.entries)) }
 {
     match begin {
         Begin::Now => put_text(alloc, members, "begin", b"now"),
@@ -26,9 +27,10 @@ fn put_begin(alloc: Global, members: &mut Members, begin: &Begin) -> Result<(), 
     }
 }
 
-/// Sets the end.
+/// Sets the member `end`.
 fn put_end(alloc: Global, members: &mut Members, end: &End) -> Result<(), Oom>
-    ensures { OnOk result (members_view members.new.entries ≡ put_end end.now (members_view members.old.entries)) }
+    ensures { OnOk result (members_view members.new.entries
+        ≡ put_end end.now (members_view members.old.entries)) }
 {
     match end {
         End::Ufn => put_text(alloc, members, "end", b"ufn"),
@@ -36,7 +38,7 @@ fn put_end(alloc: Global, members: &mut Members, end: &End) -> Result<(), Oom>
     }
 }
 
-/// The texts of zones.
+/// Returns the zones as JSON strings.
 fn zone_values(alloc: Global, zones: &[Zone]) -> Result<Vec<Value>, Oom>
     ensures { IfOk result (λ values. map view values.items ≡ map zone_data zones.now) }
 {
@@ -48,7 +50,7 @@ fn zone_values(alloc: Global, zones: &[Zone]) -> Result<Vec<Value>, Oom>
     Ok(values)
 }
 
-/// The four texts, also where they are empty.
+/// Returns the four texts as a JSON object, empty ones too.
 #[tactic(auto, unfolding(crate::specs::Canonical::texts_data))]
 fn texts_value(alloc: Global, texts: &Texts) -> Result<Value, Oom>
     ensures { IfOk result (λ value. view value ≡ texts_data texts.now) }
@@ -62,14 +64,16 @@ fn texts_value(alloc: Global, texts: &Texts) -> Result<Value, Oom>
 }
 
 fn put_site(alloc: Global, members: &mut Members, site: &[u8; 5]) -> Result<(), Oom>
-    ensures { OnOk result (members_view members.new.entries ≡ put_text (codes "site") site.now (members_view members.old.entries)) }
+    ensures { OnOk result (members_view members.new.entries
+        ≡ put_text (codes "site") site.now (members_view members.old.entries)) }
 {
     put_text(alloc, members, "site", site)
 }
 
-/// Sets where a flood is, and of which severity and cause.
+/// Sets the location, the severity and the cause of a flood.
 fn put_source(alloc: Global, members: &mut Members, flood: &Flood) -> Result<(), Oom>
-    ensures { OnOk result (members_view members.new.entries ≡ put_source flood.now (members_view members.old.entries)) }
+    ensures { OnOk result (members_view members.new.entries
+        ≡ put_source flood.now (members_view members.old.entries)) }
 {
     let cause = flood.cause;
     let severity = [flood.severity.letter()];
@@ -78,9 +82,10 @@ fn put_source(alloc: Global, members: &mut Members, flood: &Flood) -> Result<(),
     put_text(alloc, members, "cause", &cause.letters())
 }
 
-/// Sets when a flood begins, crests and ends.
+/// Sets the begin, the crest and the end of a flood.
 fn put_times(alloc: Global, members: &mut Members, flood: &Flood) -> Result<(), Oom>
-    ensures { OnOk result (members_view members.new.entries ≡ put_times flood.now (members_view members.old.entries)) }
+    ensures { OnOk result (members_view members.new.entries
+        ≡ put_times flood.now (members_view members.old.entries)) }
 {
     put_text(alloc, members, "begin", &time_text(flood.begin))?;
     put_text(alloc, members, "crest", &time_text(flood.crest))?;
@@ -120,9 +125,10 @@ fn event_texts_values(alloc: Global, list: &[EventTexts]) -> Result<Vec<Value>, 
     Ok(values)
 }
 
-/// Sets flood values, where there are some.
+/// Sets the member `flood`, if there are H-VTEC values.
 fn put_flood(alloc: Global, members: &mut Members, flood: &Option<Flood>) -> Result<(), Oom>
-    ensures { OnOk result (members_view members.new.entries ≡ put_flood flood.now (members_view members.old.entries)) }
+    ensures { OnOk result (members_view members.new.entries
+        ≡ put_flood flood.now (members_view members.old.entries)) }
 {
     match flood {
         None => Ok(()),
@@ -134,7 +140,8 @@ fn put_flood(alloc: Global, members: &mut Members, flood: &Option<Flood>) -> Res
 }
 
 fn put_target(alloc: Global, members: &mut Members, target: &Target) -> Result<(), Oom>
-    ensures { OnOk result (members_view members.new.entries ≡ put_target target.now (members_view members.old.entries)) }
+    ensures { OnOk result (members_view members.new.entries
+        ≡ put_target target.now (members_view members.old.entries)) }
 {
     match target {
         Target::Fresh(hazard) => put_text(alloc, members, "hazard", &hazard_text(hazard)),
@@ -148,7 +155,8 @@ fn put_zones_texts(
     zones: &[Zone],
     texts: &Texts,
 ) -> Result<(), Oom>
-    ensures { OnOk result (members_view members.new.entries ≡ put_zones_texts zones.now texts.now (members_view members.old.entries)) }
+    ensures { OnOk result (members_view members.new.entries
+        ≡ put_zones_texts zones.now texts.now (members_view members.old.entries)) }
 {
     let zones = zone_values(alloc, zones)?;
     put(alloc, members, "zones", Value::Array(zones))?;
@@ -158,7 +166,8 @@ fn put_zones_texts(
 
 #[tactic(auto, unfolding(crate::specs::Canonical::put_put))]
 fn put_put(alloc: Global, members: &mut Members, part: &PutPart) -> Result<(), Oom>
-    ensures { OnOk result (members_view members.new.entries ≡ put_put part.now (members_view members.old.entries)) }
+    ensures { OnOk result (members_view members.new.entries
+        ≡ put_put part.now (members_view members.old.entries)) }
 {
     put_target(alloc, members, &part.target)?;
     put_zones_texts(alloc, members, part.zones.as_slice(), &part.texts)?;
@@ -169,7 +178,8 @@ fn put_put(alloc: Global, members: &mut Members, part: &PutPart) -> Result<(), O
 
 #[tactic(auto, unfolding(crate::specs::Canonical::put_event_part))]
 fn put_event_part(alloc: Global, members: &mut Members, part: &EventPart) -> Result<(), Oom>
-    ensures { OnOk result (members_view members.new.entries ≡ put_event_part part.now (members_view members.old.entries)) }
+    ensures { OnOk result (members_view members.new.entries
+        ≡ put_event_part part.now (members_view members.old.entries)) }
 {
     put_event_text(alloc, members, "event", &part.event)?;
     put_zones_texts(alloc, members, part.zones.as_slice(), &part.texts)
@@ -177,7 +187,8 @@ fn put_event_part(alloc: Global, members: &mut Members, part: &EventPart) -> Res
 
 #[tactic(auto, unfolding(crate::specs::Canonical::put_routine))]
 fn put_routine(alloc: Global, members: &mut Members, part: &RoutinePart) -> Result<(), Oom>
-    ensures { OnOk result (members_view members.new.entries ≡ put_routine part.now (members_view members.old.entries)) }
+    ensures { OnOk result (members_view members.new.entries
+        ≡ put_routine part.now (members_view members.old.entries)) }
 {
     let hazard = part.hazard;
     put_text(alloc, members, "hazard", &hazard_text(&hazard))?;
@@ -185,7 +196,8 @@ fn put_routine(alloc: Global, members: &mut Members, part: &RoutinePart) -> Resu
 }
 
 fn put_put_do(alloc: Global, members: &mut Members, word: &str, part: &PutPart) -> Result<(), Oom>
-    ensures { OnOk result (members_view members.new.entries ≡ put_put_do word.now part.now (members_view members.old.entries)) }
+    ensures { OnOk result (members_view members.new.entries
+        ≡ put_put_do word.now part.now (members_view members.old.entries)) }
 {
     put_text(alloc, members, "do", word.as_bytes())?;
     put_put(alloc, members, part)
@@ -197,23 +209,26 @@ fn put_event_do(
     word: &str,
     part: &EventPart,
 ) -> Result<(), Oom>
-    ensures { OnOk result (members_view members.new.entries ≡ put_event_do word.now part.now (members_view members.old.entries)) }
+    ensures { OnOk result (members_view members.new.entries
+        ≡ put_event_do word.now part.now (members_view members.old.entries)) }
 {
     put_text(alloc, members, "do", word.as_bytes())?;
     put_event_part(alloc, members, part)
 }
 
 fn put_routine_do(alloc: Global, members: &mut Members, part: &RoutinePart) -> Result<(), Oom>
-    ensures { OnOk result (members_view members.new.entries ≡ put_routine_do part.now (members_view members.old.entries)) }
+    ensures { OnOk result (members_view members.new.entries
+        ≡ put_routine_do part.now (members_view members.old.entries)) }
 {
     put_text(alloc, members, "do", b"routine")?;
     put_routine(alloc, members, part)
 }
 
-/// Sets what a step of a draft asks.
+/// Sets the members of an intent.
 #[tactic(auto, unfolding(crate::specs::Canonical::put_intent))]
 fn put_intent(alloc: Global, members: &mut Members, intent: &Intent) -> Result<(), Oom>
-    ensures { OnOk result (members_view members.new.entries ≡ put_intent intent.now (members_view members.old.entries)) }
+    ensures { OnOk result (members_view members.new.entries
+        ≡ put_intent intent.now (members_view members.old.entries)) }
 {
     match intent {
         Intent::Put(part) => put_put_do(alloc, members, "put", part),
@@ -223,7 +238,11 @@ fn put_intent(alloc: Global, members: &mut Members, intent: &Intent) -> Result<(
     }
 }
 
-/// The canonical request of an intent, without desk, number and draft.
+/// Returns an intent as a JSON object: its canonical request without desk, number and draft.
+///
+/// # Errors
+///
+/// Out of memory.
 #[tactic(auto, unfolding(crate::specs::Canonical::intent_data))]
 pub fn intent_value(alloc: Global, intent: &Intent) -> Result<Value, Oom>
     ensures { IfOk result (λ value. view value ≡ intent_data intent.now) }
@@ -233,7 +252,13 @@ pub fn intent_value(alloc: Global, intent: &Intent) -> Result<Value, Oom>
     Ok(Value::Object(members))
 }
 
-/// The canonical text of an intent: its request without desk, number and draft.
+/// Returns the canonical text of an intent: that of its request without desk, number and draft.
+///
+/// # Errors
+///
+/// Out of memory.
+///
+/// Source: docs/REQUESTS.md, "Replies".
 #[tactic(auto, using(crate::proofs::CanonicalFloats::intent_clean), unfolding(crate::specs::Canonical::intent_text))]
 pub fn intent_text(alloc: Global, intent: &Intent) -> Result<Text, Oom>
     ensures { IfOk result (λ text. text ≡ intent_text intent.now) }
@@ -248,7 +273,8 @@ fn put_correct(
     product: u32,
     texts: &[EventTexts],
 ) -> Result<(), Oom>
-    ensures { OnOk result (members_view members.new.entries ≡ put_correct product texts.now (members_view members.old.entries)) }
+    ensures { OnOk result (members_view members.new.entries
+        ≡ put_correct product texts.now (members_view members.old.entries)) }
 {
     put_text(alloc, members, "do", b"correct")?;
     put_number(alloc, members, "product", product)?;
@@ -256,32 +282,36 @@ fn put_correct(
     put(alloc, members, "texts", Value::Array(values))
 }
 
-/// Sets a word and a draft.
+/// Sets the members `do` and `draft`.
 fn put_draft_do(alloc: Global, members: &mut Members, word: &str, draft: u32) -> Result<(), Oom>
-    ensures { OnOk result (members_view members.new.entries ≡ put_draft_do word.now draft (members_view members.old.entries)) }
+    ensures { OnOk result (members_view members.new.entries
+        ≡ put_draft_do word.now draft (members_view members.old.entries)) }
 {
     put_text(alloc, members, "do", word.as_bytes())?;
     put_number(alloc, members, "draft", draft)
 }
 
 fn put_drop(alloc: Global, members: &mut Members, draft: u32, place: u32) -> Result<(), Oom>
-    ensures { OnOk result (members_view members.new.entries ≡ put_drop draft place (members_view members.old.entries)) }
+    ensures { OnOk result (members_view members.new.entries
+        ≡ put_drop draft place (members_view members.old.entries)) }
 {
     put_draft_do(alloc, members, "drop", draft)?;
     put_number(alloc, members, "place", place)
 }
 
 fn put_open(alloc: Global, members: &mut Members, category: Category) -> Result<(), Oom>
-    ensures { OnOk result (members_view members.new.entries ≡ put_open category (members_view members.old.entries)) }
+    ensures { OnOk result (members_view members.new.entries
+        ≡ put_open category (members_view members.old.entries)) }
 {
     put_text(alloc, members, "do", b"open")?;
     put_text(alloc, members, "category", &category.code())
 }
 
-/// Sets what a request asks of a draft.
+/// Sets the members of a request, without desk and number.
 #[tactic(auto, unfolding(crate::specs::Canonical::put_request))]
 fn put_request(alloc: Global, members: &mut Members, request: &Request) -> Result<(), Oom>
-    ensures { OnOk result (members_view members.new.entries ≡ put_request request.now (members_view members.old.entries)) }
+    ensures { OnOk result (members_view members.new.entries
+        ≡ put_request request.now (members_view members.old.entries)) }
 {
     match request {
         Request::Issue(part) => put_put_do(alloc, members, "issue", part),
@@ -314,7 +344,8 @@ fn put_request(alloc: Global, members: &mut Members, request: &Request) -> Resul
 
 #[tactic(auto, unfolding(crate::specs::Canonical::asked_members))]
 fn asked_members(alloc: Global, desk: &Desk, seq: u32, request: &Request) -> Result<Members, Oom>
-    ensures { IfOk result (λ members. members_view members.entries ≡ asked_members (record { desk = desk.now; seq = seq; request = request.now })) }
+    ensures { IfOk result (λ members. members_view members.entries
+        ≡ asked_members (record { desk = desk.now; seq = seq; request = request.now })) }
 {
     let mut members = Map::new(alloc);
     put_request(alloc, &mut members, request)?;
@@ -323,18 +354,21 @@ fn asked_members(alloc: Global, desk: &Desk, seq: u32, request: &Request) -> Res
     Ok(members)
 }
 
-/// The canonical text of what a desk asks, by its members.
+/// Returns the canonical text of a request, written from its members.
 #[tactic(auto, using(crate::proofs::CanonicalFloats::asked_no_float), unfolding(crate::specs::Canonical::asked_text))]
 fn text_by_members(alloc: Global, desk: &Desk, seq: u32, request: &Request) -> Result<Text, Oom>
-    ensures { IfOk result (λ text. text ≡ asked_text (record { desk = desk.now; seq = seq; request = request.now })) }
+    ensures { IfOk result (λ text. text
+        ≡ asked_text (record { desk = desk.now; seq = seq; request = request.now })) }
 {
     let members = asked_members(alloc, desk, seq, request)?;
     text_of_members(alloc, members)
 }
 
-/// The hazard of the new event that an issue opens, where it has no flood values.
+/// Returns the put of an issue and the hazard of the event that it opens, or `None` if the request
+/// is no issue, joins an event or has H-VTEC values.
 fn bare_issue(request: &Request) -> Option<(&PutPart, Hazard)>
-    ensures { IfSome result (λ found. (request.now ≡ Issue found.0.now) × (found.0.now.target ≡ Fresh found.1) × (found.0.now.flood ≡ None)) }
+    ensures { IfSome result (λ found. (request.now ≡ Issue found.0.now)
+        × (found.0.now.target ≡ Fresh found.1) × (found.0.now.flood ≡ None)) }
 {
     match request {
         Request::Issue(part) => match opened_bare(part) {
@@ -345,10 +379,17 @@ fn bare_issue(request: &Request) -> Option<(&PutPart, Hazard)>
     }
 }
 
-/// The canonical text of what a desk asks under a number: compact JSON, keys in byte order, with all four texts, without
-/// flood values that it doesn't have.
+/// Returns the canonical text of a request: compact JSON, keys in byte order, with all four texts.
+/// Bytes of texts that are not UTF-8 become replacement characters.
+///
+/// # Errors
+///
+/// Out of memory.
+///
+/// Source: docs/DECISIONS.md, "Requests".
 pub fn text_of_request(alloc: Global, desk: &Desk, seq: u32, request: &Request) -> Result<Text, Oom>
-    ensures { IfOk result (λ text. text ≡ asked_text (record { desk = desk.now; seq = seq; request = request.now })) }
+    ensures { IfOk result (λ text. text
+        ≡ asked_text (record { desk = desk.now; seq = seq; request = request.now })) }
 {
     match bare_issue(request) {
         Some((part, hazard)) => bare_issue_text(alloc, desk, seq, part, hazard),
@@ -356,7 +397,13 @@ pub fn text_of_request(alloc: Global, desk: &Desk, seq: u32, request: &Request) 
     }
 }
 
-/// The canonical text of a request.
+/// Returns the canonical text of a request, as `text_of_request` does.
+///
+/// # Errors
+///
+/// Out of memory.
+///
+/// Source: docs/DECISIONS.md, "Requests".
 pub fn request_text(alloc: Global, asked: &Asked) -> Result<Text, Oom>
     ensures { IfOk result (λ text. text ≡ asked_text asked.now) }
 {

@@ -35,8 +35,15 @@ fn draft_members(alloc: Global, draft: &Draft) -> Result<Members, Oom>
     Ok(members)
 }
 
-/// The text of a draft: an object of its category, its number, its intents (each as its canonical request without desk,
-/// number and draft), its owner and the minute at which it was touched.
+/// Returns the text of a draft as compact JSON, keys in byte order: its category, number, intents,
+/// owner and the stamp of the minute at which it was touched. Each intent is its canonical request
+/// without desk, number and draft.
+///
+/// # Errors
+///
+/// Out of memory.
+///
+/// Source: docs/REQUESTS.md, "Replies".
 #[tactic(auto, using(crate::proofs::CanonicalFloats::draft_no_float), unfolding(crate::specs::Replies::draft_text))]
 pub fn draft_text(alloc: Global, draft: &Draft) -> Result<Text, Oom>
     ensures { IfOk result (λ text. text ≡ draft_text draft.now) }

@@ -16,14 +16,14 @@ use hazard_types::{
 use serde_json::Value;
 use std::alloc::Global;
 
-/// The text of a member.
+/// Returns the member with this key if it is a string.
 pub fn text_at<'v>(value: &'v Value, key: &str) -> Option<&'v str>
     ensures { option_map (λ s. s.now) result ≡ text_at key.now (view value.now) }
 {
     value.get(key).and_then(Value::as_str)
 }
 
-/// A begin: `now`, or a stamp.
+/// Returns the begin that the text is, `now` or a stamp, or `None` if it is neither.
 pub fn begin_of(text: &str) -> Option<Begin>
     ensures { result ≡ begin_at text.now }
 {
@@ -34,7 +34,7 @@ pub fn begin_of(text: &str) -> Option<Begin>
     Some(Begin::At(minute))
 }
 
-/// An end: `ufn`, or a stamp.
+/// Returns the end that the text is, `ufn` or a stamp, or `None` if it is neither.
 pub fn end_of(text: &str) -> Option<End>
     ensures { result ≡ end_at text.now }
 {
@@ -44,7 +44,9 @@ pub fn end_of(text: &str) -> Option<End>
     }
 }
 
-/// A whole number below 2^32.
+/// Returns the member with this key if it is a whole number below 2^32.
+///
+/// Source: docs/DECISIONS.md, "Requests" (whole numbers).
 pub fn number_at(value: &Value, key: &str) -> Option<u32>
     ensures { result ≡ number_at key.now (view value.now) }
 {
@@ -60,7 +62,7 @@ pub fn number_at(value: &Value, key: &str) -> Option<u32>
     }
 }
 
-/// The zone that a text is.
+/// Returns the zone that the value is, or `None` if it is no string or no zone.
 fn zone_of(value: &Value) -> Option<Zone>
     ensures { result ≡ option_and_then zone_at (as_str (view value.now)) }
 {
@@ -68,7 +70,11 @@ fn zone_of(value: &Value) -> Option<Zone>
     zone_in(text.as_bytes())
 }
 
-/// The zones of the texts, or nothing where one is no zone.
+/// Returns the zones that the values are, or `None` if one is no zone.
+///
+/// # Errors
+///
+/// Out of memory.
 pub fn zones_of(alloc: Global, values: &[Value]) -> Result<Option<List<Zone>>, Oom>
     ensures { IfOk result (λ zones. zones ≡ zones_of (items_view values.now)) }
 {
@@ -82,9 +88,15 @@ pub fn zones_of(alloc: Global, values: &[Value]) -> Result<Option<List<Zone>>, O
     Ok(Some(zones))
 }
 
-/// The zones of a request, or nothing where they are missing or wrong.
+/// Returns the zones of the member `zones`, or `None` if it is missing or no array of zones.
+///
+/// # Errors
+///
+/// Out of memory.
 pub fn zones_at(alloc: Global, value: &Value) -> Result<Option<List<Zone>>, Oom>
-    ensures { IfOk result (λ zones. zones ≡ option_and_then zones_of (option_and_then as_array (get (codes "zones") (view value.now)))) }
+    ensures { IfOk result (λ zones. zones
+        ≡ option_and_then zones_of
+        (option_and_then as_array (get (codes "zones") (view value.now)))) }
 {
     match value.get("zones").and_then(Value::as_array) {
         Some(values) => zones_of(alloc, values),
@@ -92,14 +104,15 @@ pub fn zones_at(alloc: Global, value: &Value) -> Result<Option<List<Zone>>, Oom>
     }
 }
 
-/// A location's code.
+/// Returns the code of the location that the text is, or `None` if it is no such code.
 fn location_of(text: &str) -> Option<[u8; 5]>
     ensures { result ≡ location_at text.now }
 {
     location_in(text.as_bytes())
 }
 
-/// The minute of a stamp, or no minute for the zero time.
+/// Returns the minute of a stamp, `Some(None)` for `000000T0000Z`, or `None` if the text is
+/// neither.
 fn time_of(text: &str) -> Option<Option<Minute>>
     ensures { result ≡ time_at text.now }
 {
@@ -119,7 +132,7 @@ fn severity_in(value: &Value) -> Option<Severity>
     Severity::at(text.as_bytes())
 }
 
-/// One of the causes that the desk writes.
+/// Returns the member `cause` if it is one of the causes that a request may name.
 fn cause_in(value: &Value) -> Option<Cause>
     ensures { result ≡ cause_in (view value.now) }
 {
@@ -155,7 +168,10 @@ fn values_in(value: &Value) -> Option<Flood>
     })
 }
 
-/// Flood values, or nothing where one is missing or wrong, or a key is unknown.
+/// Returns the H-VTEC values of an object, or `None` if one is missing or wrong, if a key is
+/// unknown, or if the value is no object.
+///
+/// Source: docs/HAZARDS.md, "Flood values".
 #[tactic(auto, unfolding(crate::specs::Fields::flood_of))]
 pub fn flood_of(value: &Value) -> Option<Flood>
     ensures { result ≡ flood_of (view value.now) }
@@ -168,7 +184,8 @@ pub fn flood_of(value: &Value) -> Option<Flood>
     }
 }
 
-/// A text of a member, which is empty where the member is absent. Nothing where it is no text.
+/// Returns the member with this key if it is a string, the empty text if there is no such member,
+/// or `None` if it is no string.
 fn free_text(alloc: Global, value: &Value, key: &str) -> Result<Option<Text>, Oom>
     ensures { IfOk result (λ text. text ≡ free_text key.now (view value.now)) }
 {
@@ -205,7 +222,12 @@ fn four_texts(alloc: Global, value: &Value) -> Result<Option<Texts>, Oom>
     }))
 }
 
-/// Texts, or nothing where one is wrong or a key is unknown.
+/// Returns the texts of an object, or `None` if one is no string, if a key is unknown, or if the
+/// value is no object. An absent text is empty.
+///
+/// # Errors
+///
+/// Out of memory.
 #[tactic(auto, unfolding(crate::specs::Fields::texts_of))]
 pub fn texts_of(alloc: Global, value: &Value) -> Result<Option<Texts>, Oom>
     ensures { IfOk result (λ texts. texts ≡ texts_of (view value.now)) }
@@ -220,9 +242,10 @@ pub fn texts_of(alloc: Global, value: &Value) -> Result<Option<Texts>, Oom>
     }
 }
 
-/// The texts of a member that must be there.
+/// Returns the texts of the member `texts`, or `None` if it is missing or wrong.
 fn texts_within(alloc: Global, value: &Value) -> Result<Option<Texts>, Oom>
-    ensures { IfOk result (λ texts. texts ≡ option_and_then texts_of (get (codes "texts") (view value.now))) }
+    ensures { IfOk result (λ texts. texts
+        ≡ option_and_then texts_of (get (codes "texts") (view value.now))) }
 {
     match value.get("texts") {
         Some(texts) => texts_of(alloc, texts),
@@ -230,7 +253,7 @@ fn texts_within(alloc: Global, value: &Value) -> Result<Option<Texts>, Oom>
     }
 }
 
-/// The event that a value names.
+/// Returns the event of the member `event`, or `None` if it is missing or no event.
 pub fn event_of(value: &Value) -> Option<Event>
     ensures { result ≡ option_and_then event_at (text_at (codes "event") (view value.now)) }
 {
@@ -238,7 +261,8 @@ pub fn event_of(value: &Value) -> Option<Event>
     event_in(text.as_bytes())
 }
 
-/// An event with its texts, or nothing where one is missing or wrong, or a key is unknown.
+/// Returns the event and the texts of an object, or `None` if one is missing or wrong, if a key is
+/// unknown, or if the value is no object.
 #[tactic(auto, unfolding(crate::specs::Fields::event_texts_of))]
 fn event_texts_of(alloc: Global, value: &Value) -> Result<Option<EventTexts>, Oom>
     ensures { IfOk result (λ texts. texts ≡ event_texts_of (view value.now)) }
@@ -258,7 +282,11 @@ fn event_texts_of(alloc: Global, value: &Value) -> Result<Option<EventTexts>, Oo
     Ok(Some(EventTexts { event, texts }))
 }
 
-/// The events with their texts of an array, or nothing where one is wrong.
+/// Returns the events with texts that the values are, or `None` if one is wrong.
+///
+/// # Errors
+///
+/// Out of memory.
 pub fn each_event_texts(alloc: Global, values: &[Value]) -> Result<Option<List<EventTexts>>, Oom>
     ensures { IfOk result (λ texts. texts ≡ each_event_texts (items_view values.now)) }
 {
@@ -272,14 +300,14 @@ pub fn each_event_texts(alloc: Global, values: &[Value]) -> Result<Option<List<E
     Ok(Some(list))
 }
 
-/// A desk of this name.
+/// Returns the desk with this name, or `None` if the text is not a desk's name.
 pub fn desk_of(text: &str) -> Option<Desk>
     ensures { result ≡ desk_named text.now }
 {
     Desk::new(text.as_bytes())
 }
 
-/// A desk's number, which is not 0.
+/// Returns the number of a request, or `None` if it is 0.
 pub fn seq_of(number: u32) -> Option<u32>
     ensures { result ≡ if_counted number }
 {

@@ -1,4 +1,4 @@
-//! The canonical text of an issue, laid piece by piece where it opens an event without flood values.
+//! The canonical text of an issue without H-VTEC values, written piece by piece.
 ghost use Rattle.std.specs.Prelude.{◌≡◌, ◌++◌, None, IfOk, IfSome, OnOk};
 ghost use Rattle.hazard_types.specs.declared.request.Request.TheVariants.{Issue};
 ghost use Rattle.hazard_types.specs.declared.request.Target.TheVariants.{Fresh};
@@ -11,13 +11,14 @@ use hazard_types::{
 };
 use std::alloc::Global;
 
-/// The room for what is neither zones nor texts.
+/// The bytes that are reserved for all but the zones and the texts.
 const FRAME_ROOM: usize = 192;
 
-/// The room for a zone.
+/// The bytes that a zone takes, with its quotes and its comma.
 const ZONE_ROOM: usize = 9;
 
-/// The hazard of the new event that a put opens, where it has no flood values.
+/// Returns the hazard of the event that a put opens, or `None` if it joins an event or has H-VTEC
+/// values.
 pub(crate) fn opened_bare(part: &PutPart) -> Option<Hazard>
     ensures { IfSome result (λ h. (part.now.target ≡ Fresh h) × (part.now.flood ≡ None)) }
 {
@@ -30,7 +31,7 @@ pub(crate) fn opened_bare(part: &PutPart) -> Option<Hazard>
     }
 }
 
-/// The room that the text of an issue mostly takes.
+/// Returns the bytes to reserve for the text of an issue. Most texts need no more.
 fn room_of(part: &PutPart) -> usize {
     let texts = &part.texts;
     FRAME_ROOM
@@ -59,7 +60,7 @@ fn put_end(alloc: Global, out: &mut Text, end: &End) -> Result<(), Oom>
     }
 }
 
-/// Adds the begin and the desk.
+/// Appends the members `begin` and `desk`.
 #[tactic(auto, unfolding(crate::specs::Pieces::begin_desk))]
 fn put_begin_desk(alloc: Global, out: &mut Text, begin: &Begin, desk: &Desk) -> Result<(), Oom>
     ensures { OnOk result (out.new ≡ out.old ++ begin_desk begin.now desk.now) }
@@ -70,7 +71,7 @@ fn put_begin_desk(alloc: Global, out: &mut Text, begin: &Begin, desk: &Desk) -> 
     put_string(alloc, out, desk.bytes())
 }
 
-/// Adds what is done, and the end.
+/// Appends the members `do` and `end`.
 #[tactic(auto, unfolding(crate::specs::Pieces::do_end))]
 fn put_do_end(alloc: Global, out: &mut Text, word: &str, end: &End) -> Result<(), Oom>
     ensures { OnOk result (out.new ≡ out.old ++ do_end word.now end.now) }
@@ -81,7 +82,7 @@ fn put_do_end(alloc: Global, out: &mut Text, word: &str, end: &End) -> Result<()
     put_end(alloc, out, end)
 }
 
-/// Adds the hazard and the desk's number.
+/// Appends the members `hazard` and `seq`.
 #[tactic(auto, unfolding(crate::specs::Pieces::hazard_seq))]
 fn put_hazard_seq(alloc: Global, out: &mut Text, hazard: &Hazard, seq: u32) -> Result<(), Oom>
     ensures { OnOk result (out.new ≡ out.old ++ hazard_seq hazard.now seq) }
@@ -92,7 +93,7 @@ fn put_hazard_seq(alloc: Global, out: &mut Text, hazard: &Hazard, seq: u32) -> R
     put_whole(out, seq)
 }
 
-/// Adds the texts and the zones.
+/// Appends the members `texts` and `zones`.
 fn put_texts_zones(alloc: Global, out: &mut Text, texts: &Texts, zones: &[Zone]) -> Result<(), Oom>
     ensures { OnOk result (out.new ≡ out.old ++ texts_zones texts.now zones.now) }
 {
@@ -104,7 +105,11 @@ fn put_texts_zones(alloc: Global, out: &mut Text, texts: &Texts, zones: &[Zone])
     Ok(())
 }
 
-/// The canonical text of an issue of this hazard without flood values.
+/// Returns the canonical text of an issue that opens an event of this hazard without H-VTEC values.
+///
+/// # Errors
+///
+/// Out of memory.
 #[tactic(auto, using(crate::proofs::PieceLemmas::issue_in_four))]
 pub(crate) fn bare_issue_text(
     alloc: Global,
@@ -115,7 +120,8 @@ pub(crate) fn bare_issue_text(
 ) -> Result<Text, Oom>
     requires target { part.now.target ≡ Fresh hazard }
     requires flood { part.now.flood ≡ None }
-    ensures { IfOk result (λ text. text ≡ asked_text (record { desk = desk.now; seq = seq; request = Issue part.now })) }
+    ensures { IfOk result (λ text. text
+        ≡ asked_text (record { desk = desk.now; seq = seq; request = Issue part.now })) }
 {
     let mut text = Text::from_vec(Vec::with_capacity(alloc, room_of(part))?);
     put_begin_desk(alloc, &mut text, &part.begin, desk)?;

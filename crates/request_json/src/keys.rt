@@ -1,11 +1,11 @@
-//! What requests do, and the keys that they have.
+//! The field `do` of requests, and the keys that each object may have.
 ghost use Rattle.std.specs.Prelude.{◌≡◌};
 ghost use Rattle.serde_json.specs.View.{members_view};
 ghost use Rattle.request_json.specs.Keys.{verb_at, has_key, is_common, is_of_put, is_of_issue, is_of_draft_put, is_of_event, is_of_routine, is_of_flood, is_of_texts, keys_of, all_known};
 
 use serde_json::{Map, Value};
 
-/// What a request does.
+/// The value of a request's field `do`.
 #[derive(Clone, Copy)]
 pub enum Verb {
     Open,
@@ -21,16 +21,19 @@ pub enum Verb {
     Correct,
 }
 
-/// The keys of an object: of requests, of a training line, of flood values, of texts, and of an event with its texts.
+/// A set of keys: of a kind of request, of a line of the training office, of H-VTEC values, of
+/// texts, or of an event with its texts.
 #[derive(Clone, Copy)]
 pub enum Keys {
     Open,
     Issue,
     Training,
     Put,
+    /// The keys of `end` and `restate`.
     Event,
     Routine,
     Drop,
+    /// The keys of `take`, `discard` and `send`.
     Draft,
     Correct,
     Flood,
@@ -39,7 +42,7 @@ pub enum Keys {
 }
 
 impl Verb {
-    /// What the word says to do.
+    /// Returns the verb that the word is, or `None` if it is not one.
     pub fn at(word: &str) -> Option<Verb>
         ensures { result ≡ verb_at word.now }
     {
@@ -59,7 +62,7 @@ impl Verb {
         }
     }
 
-    /// The keys of the request.
+    /// Returns the keys that a request with this verb may have.
     pub fn keys(self) -> Keys
         ensures { result ≡ keys_of self }
     {
@@ -76,49 +79,49 @@ impl Verb {
     }
 }
 
-/// Whether all requests have the key.
+/// Whether all requests may have the key.
 fn is_common(key: &str) -> bool
     ensures { result ≡ is_common key.now }
 {
     matches!(key, "desk" | "seq" | "do")
 }
 
-/// Whether the key says where and when an event is put, or with which values and texts.
+/// Whether all requests that put an event into zones may have the key.
 fn is_of_put(key: &str) -> bool
     ensures { result ≡ is_of_put key.now }
 {
     matches!(key, "zones" | "begin" | "end" | "flood" | "texts")
 }
 
-/// Whether the key is an issue's, beside the common ones.
+/// Whether an issue may have the key, apart from the common ones.
 fn is_of_issue(key: &str) -> bool
     ensures { result ≡ is_of_issue key.now }
 {
     key == "hazard" || is_of_put(key)
 }
 
-/// Whether the key is that of a put into a draft.
+/// Whether a put into a draft may have the key, apart from the common ones.
 fn is_of_draft_put(key: &str) -> bool
     ensures { result ≡ is_of_draft_put key.now }
 {
     matches!(key, "draft" | "hazard" | "event") || is_of_put(key)
 }
 
-/// Whether the key is that of an event's end or restatement in a draft.
+/// Whether an `end` or a `restate` may have the key, apart from the common ones.
 fn is_of_event(key: &str) -> bool
     ensures { result ≡ is_of_event key.now }
 {
     matches!(key, "draft" | "event" | "zones" | "texts")
 }
 
-/// Whether the key is that of a routine product in a draft.
+/// Whether a `routine` may have the key, apart from the common ones.
 fn is_of_routine(key: &str) -> bool
     ensures { result ≡ is_of_routine key.now }
 {
     matches!(key, "draft" | "hazard" | "zones" | "texts")
 }
 
-/// Whether the key is one of flood values.
+/// Whether H-VTEC values have the key.
 fn is_of_flood(key: &str) -> bool
     ensures { result ≡ is_of_flood key.now }
 {
@@ -128,7 +131,7 @@ fn is_of_flood(key: &str) -> bool
     )
 }
 
-/// Whether the key is one of texts.
+/// Whether texts may have the key.
 fn is_of_texts(key: &str) -> bool
     ensures { result ≡ is_of_texts key.now }
 {
@@ -136,7 +139,9 @@ fn is_of_texts(key: &str) -> bool
 }
 
 impl Keys {
-    /// Whether the key is one of these.
+    /// Whether the key is in the set.
+    ///
+    /// Source: docs/REQUESTS.md, "The requests".
     #[tactic(auto, unfolding(crate::specs::Keys::has_key))]
     pub fn has(self, key: &str) -> bool
         ensures { result ≡ has_key self key.now }
@@ -157,7 +162,7 @@ impl Keys {
         }
     }
 
-    /// Whether each key of an object is one of these.
+    /// Whether each key of the members is in the set.
     pub fn know_all(self, members: &Map<String, Value>) -> bool
         ensures { result ≡ all_known self (members_view members.now.entries) }
     {

@@ -1,4 +1,5 @@
-//! Laws of requests, for the crates above. Each function does nothing; its contract is the law.
+//! Laws of canonical texts, for the crates above. The functions do nothing: their contracts are the
+//! laws.
 ghost use Rattle.std.specs.Prelude.{◌≡◌, ◌≢◌, ℕ, Ok, All};
 ghost use Rattle.request_json.specs.Canonical.{asked_text};
 ghost use Rattle.request_json.specs.Form.{asked_of};
@@ -6,13 +7,13 @@ ghost use Rattle.request_json.specs.Formed.{HasForm};
 
 use crate::asked::Asked;
 
-/// The canonical text of each request that has the form reads as that request.
+/// The canonical text of a request that has the form of a request is read as that request.
 #[tactic(auto, using(crate::proofs::RequestsBack::text_reads_back))]
 pub fn canonical_texts_read_back()
     ensures { (a : Asked) → HasForm a → asked_of (asked_text a) ≡ Ok a }
 {}
 
-/// The canonical text of any request is one line.
+/// The canonical text of any request has no LF, so it is one line.
 #[tactic(auto, using(crate::proofs::CanonicalLines::asked_line))]
 pub fn canonical_texts_are_lines()
     ensures { (a : Asked) → All (λ (b : ℕ). b ≢ 10) (asked_text a) }

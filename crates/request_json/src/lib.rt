@@ -1,4 +1,8 @@
-//! Requests as JSON: those of the desks, and the lines of the training office.
+//! Reads the requests of the desks and the lines of the training office as JSON, and writes the
+//! texts of requests, replies, refusals and drafts.
+//!
+//! For crates that read requests or write replies. One begins with `read_request`, `reply_text` and
+//! `refusal_text`.
 #![tactic(auto)]
 
 mod asked;

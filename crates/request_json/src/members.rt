@@ -1,4 +1,4 @@
-//! Members of objects, as they are written.
+//! The members of JSON objects that are written.
 ghost use Rattle.std.specs.Prelude.{◌≡◌, IfOk, OnOk, false};
 ghost use Rattle.serde_json.specs.Data.{number, object, put};
 ghost use Rattle.serde_json.specs.Find.{of_integer};
@@ -10,10 +10,14 @@ use hazard_types::{List, Oom, Text};
 use serde_json::{Map, Value};
 use std::alloc::Global;
 
-/// The members of an object, each at its key's place.
+/// The members of an object, in byte order of their keys.
 pub type Members = Map<String, Value>;
 
-/// A text; bytes that are no UTF-8 are written lossily.
+/// Returns the bytes as a JSON string. Bytes that are not UTF-8 become replacement characters.
+///
+/// # Errors
+///
+/// Out of memory.
 #[tactic(auto, unfolding(crate::specs::Canonical::as_text))]
 pub fn text_value(alloc: Global, bytes: &[u8]) -> Result<Value, Oom>
     ensures { IfOk result (λ value. view value ≡ as_text bytes.now) }
@@ -23,43 +27,72 @@ pub fn text_value(alloc: Global, bytes: &[u8]) -> Result<Value, Oom>
 }
 
 /// Sets a member.
+///
+/// # Errors
+///
+/// Out of memory.
 pub fn put(alloc: Global, members: &mut Members, key: &str, value: Value) -> Result<(), Oom>
-    ensures { OnOk result (members_view members.new.entries ≡ put key.now (view value) (members_view members.old.entries)) }
+    ensures { OnOk result (members_view members.new.entries
+        ≡ put key.now (view value) (members_view members.old.entries)) }
 {
     serde_json::put(members, alloc, key, value)?;
     Ok(())
 }
 
-/// Sets a member that is a text.
+/// Sets a member that is a string.
+///
+/// # Errors
+///
+/// Out of memory.
 pub fn put_text(alloc: Global, members: &mut Members, key: &str, bytes: &[u8]) -> Result<(), Oom>
-    ensures { OnOk result (members_view members.new.entries ≡ put_text key.now bytes.now (members_view members.old.entries)) }
+    ensures { OnOk result (members_view members.new.entries
+        ≡ put_text key.now bytes.now (members_view members.old.entries)) }
 {
     let value = text_value(alloc, bytes)?;
     put(alloc, members, key, value)
 }
 
-/// Sets a member that is a whole number.
+/// Sets a member that is a number below 2^32.
+///
+/// # Errors
+///
+/// Out of memory.
 pub fn put_number(alloc: Global, members: &mut Members, key: &str, number: u32) -> Result<(), Oom>
-    ensures { OnOk result (members_view members.new.entries ≡ put_number key.now number (members_view members.old.entries)) }
+    ensures { OnOk result (members_view members.new.entries
+        ≡ put_number key.now number (members_view members.old.entries)) }
 {
     put(alloc, members, key, Value::from(number))
 }
 
-/// Sets a member that is a length or a place in a text.
+/// Sets a member that is a number of bytes or lines, or an index in a text.
+///
+/// # Errors
+///
+/// Out of memory.
 pub fn put_size(alloc: Global, members: &mut Members, key: &str, size: usize) -> Result<(), Oom>
-    ensures { OnOk result (members_view members.new.entries ≡ put_number key.now size (members_view members.old.entries)) }
+    ensures { OnOk result (members_view members.new.entries
+        ≡ put_number key.now size (members_view members.old.entries)) }
 {
     put(alloc, members, key, Value::from(size))
 }
 
-/// Sets a member that is a whole number below 0 or not.
+/// Sets a member that is a whole number, negative or not.
+///
+/// # Errors
+///
+/// Out of memory.
 pub fn put_signed(alloc: Global, members: &mut Members, key: &str, signed: i64) -> Result<(), Oom>
-    ensures { OnOk result (members_view members.new.entries ≡ put key.now (number (of_integer signed)) (members_view members.old.entries)) }
+    ensures { OnOk result (members_view members.new.entries
+        ≡ put key.now (number (of_integer signed)) (members_view members.old.entries)) }
 {
     put(alloc, members, key, Value::from(signed))
 }
 
-/// The text of the object with these members, none of which has a float.
+/// Returns the object with these members as compact JSON. No member may have a float.
+///
+/// # Errors
+///
+/// Out of memory.
 pub fn text_of_members(alloc: Global, members: Members) -> Result<Text, Oom>
     requires { members_have_float (members_view members.entries) ≡ false }
     ensures { IfOk result (λ text. text ≡ compact_text (object (members_view members.entries))) }

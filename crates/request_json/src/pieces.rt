@@ -1,4 +1,4 @@
-//! Compact JSON, laid piece by piece.
+//! Pieces of compact JSON, which are appended to a text.
 ghost use Rattle.std.specs.Prelude.{◌≡◌, ◌++◌, true, OnOk};
 ghost use Rattle.std.specs.List.{list_all};
 ghost use Rattle.serde_json.specs.Written.{comma_if};
@@ -10,21 +10,21 @@ use hazard_types::{Event, Oom, Text, Texts, Zone, put_event, zone_text};
 use itoa::Buffer;
 use std::alloc::Global;
 
-/// Whether a byte stands for itself in a string.
+/// Whether JSON strings have the byte as it is: a printable one, but no quote and no backslash.
 fn is_plain(byte: u8) -> bool
     ensures { result ≡ is_plain byte }
 {
     32 <= byte && byte < 127 && byte != b'"' && byte != b'\\'
 }
 
-/// Whether each byte stands for itself in a string.
+/// Whether JSON strings have each of the bytes as it is.
 fn are_plain(bytes: &[u8]) -> bool
     ensures { result ≡ list_all is_plain bytes.now }
 {
     bytes.iter().all(|byte| is_plain(*byte))
 }
 
-/// Adds a string whose bytes stand for themselves.
+/// Appends a string of bytes that need no escape.
 fn put_plain(out: &mut Text, bytes: &[u8]) -> Result<(), Oom>
     requires { list_all is_plain bytes.now ≡ true }
     ensures { OnOk result (out.new ≡ out.old ++ string_text bytes.now) }
@@ -35,7 +35,7 @@ fn put_plain(out: &mut Text, bytes: &[u8]) -> Result<(), Oom>
     Ok(())
 }
 
-/// Adds a string with its escapes.
+/// Appends a string with its escapes.
 #[tactic(auto, using(crate::proofs::Floats::text_no_float), unfolding(crate::specs::Pieces::string_text))]
 fn put_escaped(alloc: Global, out: &mut Text, bytes: &[u8]) -> Result<(), Oom>
     ensures { OnOk result (out.new ≡ out.old ++ string_text bytes.now) }
@@ -44,7 +44,11 @@ fn put_escaped(alloc: Global, out: &mut Text, bytes: &[u8]) -> Result<(), Oom>
     out.extend(&text)
 }
 
-/// Adds a string.
+/// Appends bytes as a JSON string. Bytes that are not UTF-8 become replacement characters.
+///
+/// # Errors
+///
+/// Out of memory.
 pub fn put_string(alloc: Global, out: &mut Text, bytes: &[u8]) -> Result<(), Oom>
     ensures { OnOk result (out.new ≡ out.old ++ string_text bytes.now) }
 {
@@ -55,14 +59,18 @@ pub fn put_string(alloc: Global, out: &mut Text, bytes: &[u8]) -> Result<(), Oom
     }
 }
 
-/// Adds a text as a string.
+/// Appends a text as a JSON string.
 fn put_text(alloc: Global, out: &mut Text, text: &Text) -> Result<(), Oom>
     ensures { OnOk result (out.new ≡ out.old ++ string_text text.now) }
 {
     put_string(alloc, out, text.as_slice())
 }
 
-/// Adds a whole number.
+/// Appends a whole number.
+///
+/// # Errors
+///
+/// Out of memory.
 #[tactic(auto, unfolding(crate::specs::Pieces::whole_text))]
 pub fn put_whole(out: &mut Text, number: u32) -> Result<(), Oom>
     ensures { OnOk result (out.new ≡ out.old ++ whole_text number) }
@@ -71,14 +79,18 @@ pub fn put_whole(out: &mut Text, number: u32) -> Result<(), Oom>
     out.extend(digits.format(number).as_bytes())
 }
 
-/// Adds a comma, where something stands before.
+/// Appends a comma if an item comes before.
 fn put_comma(out: &mut Text, later: bool) -> Result<(), Oom>
     ensures { OnOk result (out.new ≡ out.old ++ comma_if later) }
 {
     if later { out.push(b',') } else { Ok(()) }
 }
 
-/// Adds the list of zones.
+/// Appends the array of the zones' texts.
+///
+/// # Errors
+///
+/// Out of memory.
 #[tactic(auto, unfolding(crate::specs::Pieces::zones_text, crate::specs::Pieces::string_text))]
 pub fn put_zones(alloc: Global, out: &mut Text, zones: &[Zone]) -> Result<(), Oom>
     ensures { OnOk result (out.new ≡ out.old ++ zones_text zones.now) }
@@ -93,7 +105,7 @@ pub fn put_zones(alloc: Global, out: &mut Text, zones: &[Zone]) -> Result<(), Oo
     out.push(b']')
 }
 
-/// Adds the text of an event as a string.
+/// Appends the text of an event as a JSON string.
 fn put_event_string(alloc: Global, out: &mut Text, event: &Event) -> Result<(), Oom>
     ensures { OnOk result (out.new ≡ out.old ++ string_text (event_text event.now)) }
 {
@@ -102,7 +114,11 @@ fn put_event_string(alloc: Global, out: &mut Text, event: &Event) -> Result<(), 
     put_string(alloc, out, text.as_slice())
 }
 
-/// Adds the list of events.
+/// Appends the array of the events' texts.
+///
+/// # Errors
+///
+/// Out of memory.
 #[tactic(auto, unfolding(crate::specs::Pieces::events_text, crate::specs::Pieces::string_text))]
 pub fn put_events(alloc: Global, out: &mut Text, events: &[Event]) -> Result<(), Oom>
     ensures { OnOk result (out.new ≡ out.old ++ events_text events.now) }
@@ -117,7 +133,7 @@ pub fn put_events(alloc: Global, out: &mut Text, events: &[Event]) -> Result<(),
     out.push(b']')
 }
 
-/// Adds the first two of the four texts.
+/// Appends the first two members of the object of texts, `area` and `details`.
 fn put_area_details(alloc: Global, out: &mut Text, texts: &Texts) -> Result<(), Oom>
     ensures { OnOk result (out.new ≡ out.old ++ area_details texts.now) }
 {
@@ -128,7 +144,7 @@ fn put_area_details(alloc: Global, out: &mut Text, texts: &Texts) -> Result<(), 
     Ok(())
 }
 
-/// Adds the last two of the four texts.
+/// Appends its last two members, `impacts` and `what`.
 fn put_impacts_what(alloc: Global, out: &mut Text, texts: &Texts) -> Result<(), Oom>
     ensures { OnOk result (out.new ≡ out.old ++ impacts_what texts.now) }
 {
@@ -140,7 +156,11 @@ fn put_impacts_what(alloc: Global, out: &mut Text, texts: &Texts) -> Result<(), 
     Ok(())
 }
 
-/// Adds the four texts, also where they are empty.
+/// Appends the object of the four texts, empty ones too.
+///
+/// # Errors
+///
+/// Out of memory.
 pub fn put_texts(alloc: Global, out: &mut Text, texts: &Texts) -> Result<(), Oom>
     ensures { OnOk result (out.new ≡ out.old ++ texts_text texts.now) }
 {

@@ -12,7 +12,7 @@ use hazard_types::{
 use serde_json::Map;
 use std::alloc::Global;
 
-/// The code and the name of a refusal.
+/// Returns the code and the name of a refusal.
 fn label(refusal: &Refusal) -> (&'static str, &'static str)
     ensures { (result.0.now, result.1.now) ≡ label refusal.now }
 {
@@ -20,14 +20,19 @@ fn label(refusal: &Refusal) -> (&'static str, &'static str)
     (code, name)
 }
 
-/// Sets a member that is an event.
+/// Sets a member that is the text of an event.
+///
+/// # Errors
+///
+/// Out of memory.
 pub fn put_event_text(
     alloc: Global,
     members: &mut Members,
     key: &str,
     event: &Event,
 ) -> Result<(), Oom>
-    ensures { OnOk result (members_view members.new.entries ≡ put_text key.now (event_text event.now) (members_view members.old.entries)) }
+    ensures { OnOk result (members_view members.new.entries
+        ≡ put_text key.now (event_text event.now) (members_view members.old.entries)) }
 {
     let mut text = List::new(alloc);
     put_event(alloc, &mut text, event)?;
@@ -35,7 +40,8 @@ pub fn put_event_text(
 }
 
 fn put_zone(alloc: Global, members: &mut Members, zone: &Zone) -> Result<(), Oom>
-    ensures { OnOk result (members_view members.new.entries ≡ put_zone zone.now (members_view members.old.entries)) }
+    ensures { OnOk result (members_view members.new.entries
+        ≡ put_zone zone.now (members_view members.old.entries)) }
 {
     put_text(alloc, members, "zone", &zone_text(zone))
 }
@@ -46,13 +52,14 @@ fn put_event_zone(
     event: &Event,
     zone: &Zone,
 ) -> Result<(), Oom>
-    ensures { OnOk result (members_view members.new.entries ≡ put_event_zone event.now zone.now (members_view members.old.entries)) }
+    ensures { OnOk result (members_view members.new.entries
+        ≡ put_event_zone event.now zone.now (members_view members.old.entries)) }
 {
     put_zone(alloc, members, zone)?;
     put_event_text(alloc, members, "event", event)
 }
 
-/// Sets two events that clash in a zone.
+/// Sets the zone and the two events of a conflict.
 fn put_clash(
     alloc: Global,
     members: &mut Members,
@@ -60,25 +67,28 @@ fn put_clash(
     first: &Event,
     second: &Event,
 ) -> Result<(), Oom>
-    ensures { OnOk result (members_view members.new.entries ≡ put_clash zone.now first.now second.now (members_view members.old.entries)) }
+    ensures { OnOk result (members_view members.new.entries
+        ≡ put_clash zone.now first.now second.now (members_view members.old.entries)) }
 {
     put_zone(alloc, members, zone)?;
     put_event_text(alloc, members, "first", first)?;
     put_event_text(alloc, members, "second", second)
 }
 
-/// Sets a field, and a place in its text.
+/// Sets the name of a text, and the index of a byte in it.
 fn put_place_in(alloc: Global, members: &mut Members, field: &[u8], at: usize) -> Result<(), Oom>
-    ensures { OnOk result (members_view members.new.entries ≡ put_place_in field.now at (members_view members.old.entries)) }
+    ensures { OnOk result (members_view members.new.entries
+        ≡ put_place_in field.now at (members_view members.old.entries)) }
 {
     put_text(alloc, members, "field", field)?;
     put_size(alloc, members, "at", at)
 }
 
-/// Sets the values of a refusal, by name.
+/// Sets the values of a refusal, each under its name.
 #[tactic(auto, unfolding(crate::specs::Replies::put_values))]
 fn put_values(alloc: Global, members: &mut Members, refusal: &Refusal) -> Result<(), Oom>
-    ensures { OnOk result (members_view members.new.entries ≡ put_values refusal.now (members_view members.old.entries)) }
+    ensures { OnOk result (members_view members.new.entries
+        ≡ put_values refusal.now (members_view members.old.entries)) }
 {
     match refusal {
         Refusal::WrongShape { field } | Refusal::TextTooLong { field } => {
@@ -121,7 +131,8 @@ fn put_values(alloc: Global, members: &mut Members, refusal: &Refusal) -> Result
 }
 
 fn refusal_members(alloc: Global, refusal: &Refusal) -> Result<Members, Oom>
-    ensures { IfOk result (λ members. members_view members.entries ≡ put_values refusal.now (labelled (label refusal.now))) }
+    ensures { IfOk result (λ members. members_view members.entries
+        ≡ put_values refusal.now (labelled (label refusal.now))) }
 {
     let (no, rule) = label(refusal);
     let mut members = Map::new(alloc);
@@ -131,7 +142,14 @@ fn refusal_members(alloc: Global, refusal: &Refusal) -> Result<Members, Oom>
     Ok(members)
 }
 
-/// The text of a refusal: an object of its code, its name and its values, keys in byte order.
+/// Returns the text of a refusal as compact JSON, keys in byte order: its code `no`, its name
+/// `rule` and its values.
+///
+/// # Errors
+///
+/// Out of memory.
+///
+/// Source: docs/REQUESTS.md, "Refusals".
 #[tactic(auto, using(crate::proofs::Floats::refusal_no_float), unfolding(crate::specs::Replies::refusal_text))]
 pub fn refusal_text(alloc: Global, refusal: &Refusal) -> Result<Text, Oom>
     ensures { IfOk result (λ text. text ≡ refusal_text refusal.now) }

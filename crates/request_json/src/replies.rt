@@ -8,10 +8,10 @@ use crate::pieces::{put_events, put_string, put_whole};
 use hazard_types::{Event, Minute, Oom, Reply, SentReply, Text, Word, stamp};
 use std::alloc::Global;
 
-/// The room that the text of a reply mostly takes.
+/// The bytes that are reserved for the text of a reply. Most texts need no more.
 const ROOM: usize = 96;
 
-/// The word of the request.
+/// Returns the value of the field `do` of the request that the word is the reply to.
 fn word_code(word: Word) -> &'static str
     ensures { result.now ≡ word_code word }
 {
@@ -23,7 +23,7 @@ fn word_code(word: Word) -> &'static str
     }
 }
 
-/// Adds the number of a draft, and the word of what was done.
+/// Appends the members `draft` and `ok`.
 #[tactic(auto, unfolding(crate::specs::Pieces::draft_ok))]
 fn put_draft_ok(alloc: Global, out: &mut Text, draft: u32, word: &str) -> Result<(), Oom>
     ensures { OnOk result (out.new ≡ out.old ++ draft_ok draft word.now) }
@@ -34,7 +34,7 @@ fn put_draft_ok(alloc: Global, out: &mut Text, draft: u32, word: &str) -> Result
     put_string(alloc, out, word.as_bytes())
 }
 
-/// The text of a reply to what opened, took or discarded a draft, or dropped something from it.
+/// Returns the text of a reply to `open`, `drop`, `take` or `discard`.
 #[tactic(auto, using(crate::proofs::PieceLemmas::draft_in_two))]
 fn draft_text(alloc: Global, word: Word, draft: u32) -> Result<Text, Oom>
     ensures { IfOk result (λ text. text ≡ reply_text (Draft word draft)) }
@@ -45,7 +45,7 @@ fn draft_text(alloc: Global, word: Word, draft: u32) -> Result<Text, Oom>
     Ok(text)
 }
 
-/// Adds a place in a draft.
+/// Appends the member `place` and the end of the object.
 #[tactic(auto, unfolding(crate::specs::Pieces::place_end))]
 fn put_place_end(out: &mut Text, place: u32) -> Result<(), Oom>
     ensures { OnOk result (out.new ≡ out.old ++ place_end place) }
@@ -55,7 +55,7 @@ fn put_place_end(out: &mut Text, place: u32) -> Result<(), Oom>
     out.push(b'}')
 }
 
-/// The text of a reply to what was put into a draft.
+/// Returns the text of a reply to `put`, `end`, `restate` or `routine`.
 #[tactic(auto, using(crate::proofs::PieceLemmas::placed_in_two))]
 fn placed_text(alloc: Global, draft: u32, place: u32) -> Result<Text, Oom>
     ensures { IfOk result (λ text. text ≡ reply_text (Placed draft place)) }
@@ -66,7 +66,7 @@ fn placed_text(alloc: Global, draft: u32, place: u32) -> Result<Text, Oom>
     Ok(text)
 }
 
-/// Adds the events of a product.
+/// Appends the members `events` and `ok`.
 #[tactic(auto, unfolding(crate::specs::Pieces::events_ok))]
 fn put_events_ok(alloc: Global, out: &mut Text, events: &[Event]) -> Result<(), Oom>
     ensures { OnOk result (out.new ≡ out.old ++ events_ok events.now) }
@@ -77,7 +77,7 @@ fn put_events_ok(alloc: Global, out: &mut Text, events: &[Event]) -> Result<(), 
     put_string(alloc, out, b"send")
 }
 
-/// Adds the number of a product and its time.
+/// Appends the members `product` and `time` and the end of the object.
 fn put_product_time(alloc: Global, out: &mut Text, product: u32, time: Minute) -> Result<(), Oom>
     ensures { OnOk result (out.new ≡ out.old ++ product_time product time) }
 {
@@ -89,7 +89,7 @@ fn put_product_time(alloc: Global, out: &mut Text, product: u32, time: Minute) -
     Ok(())
 }
 
-/// The text of a reply to a product.
+/// Returns the text of a reply to `send`, `issue` or `correct`.
 #[tactic(auto, using(crate::proofs::PieceLemmas::sent_in_two))]
 fn sent_text(alloc: Global, sent: &SentReply) -> Result<Text, Oom>
     ensures { IfOk result (λ text. text ≡ reply_text (Sent sent.now)) }
@@ -100,7 +100,13 @@ fn sent_text(alloc: Global, sent: &SentReply) -> Result<Text, Oom>
     Ok(text)
 }
 
-/// The text of a reply, keys in byte order.
+/// Returns the text of a reply as compact JSON, keys in byte order.
+///
+/// # Errors
+///
+/// Out of memory.
+///
+/// Source: docs/REQUESTS.md, "Replies".
 pub fn reply_text(alloc: Global, reply: &Reply) -> Result<Text, Oom>
     ensures { IfOk result (λ text. text ≡ reply_text reply.now) }
 {
@@ -111,14 +117,18 @@ pub fn reply_text(alloc: Global, reply: &Reply) -> Result<Text, Oom>
     }
 }
 
-/// What is answered where the disk fails.
+/// Returns the text of the reply to a request under which the disk failed.
+///
+/// Source: docs/REQUESTS.md, "The disk and the memory".
 pub fn disk_fault_text() -> &'static [u8]
     ensures { result.now ≡ disk_fault_text }
 {
     b"{\"no\":\"D1\",\"rule\":\"DiskFault\"}"
 }
 
-/// What is answered where memory runs out.
+/// Returns the text of the reply to a request for which memory ran out.
+///
+/// Source: docs/REQUESTS.md, "The disk and the memory".
 pub fn out_of_memory_text() -> &'static [u8]
     ensures { result.now ≡ out_of_memory_text }
 {

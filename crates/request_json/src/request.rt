@@ -1,4 +1,4 @@
-//! Requests are read.
+//! Reads requests and lines of the training office.
 ghost use Rattle.std.specs.Prelude.{◌≡◌, if◌then◌else◌, IfOk, codes, Some, None, option_and_then};
 ghost use Rattle.hazard_types.specs.Codes.{value_beside};
 ghost use Rattle.hazard_types.specs.Given.{Gives};
@@ -25,7 +25,7 @@ use hazard_types::{
 use serde_json::{Map, Value};
 use std::alloc::Global;
 
-/// What a field has, or the fault of the field.
+/// Returns the value of a field, or `WrongShape` with the field's name if there is none.
 fn given<T: Drop>(alloc: Global, found: Option<T>, field: &str) -> Result<T, Or<Refusal>>
     ensures { Gives result (given found field.now) }
 {
@@ -37,7 +37,7 @@ fn given<T: Drop>(alloc: Global, found: Option<T>, field: &str) -> Result<T, Or<
     }
 }
 
-/// The fault of a field.
+/// Returns `WrongShape` with the field's name.
 fn wrong<T: Drop>(alloc: Global, field: &str) -> Result<T, Or<Refusal>>
     ensures { Gives result (Err (Refusal.WrongShape field.now)) }
 {
@@ -70,7 +70,9 @@ fn verb_field(alloc: Global, value: &Value) -> Result<Verb, Or<Refusal>>
 }
 
 fn category_of(value: &Value) -> Option<Category>
-    ensures { result ≡ option_and_then (value_beside category_rows) (text_at (codes "category") (view value.now)) }
+    ensures { result
+        ≡ option_and_then (value_beside category_rows)
+        (text_at (codes "category") (view value.now)) }
 {
     let text = text_at(value, "category")?;
     Category::at(text.as_bytes())
@@ -82,7 +84,7 @@ fn category_field(alloc: Global, value: &Value) -> Result<Category, Or<Refusal>>
     given(alloc, category_of(value), "category")
 }
 
-/// A whole number below 2^32: a draft's, a place, or a product's.
+/// Returns the number of a draft, a place or a product, below 2^32.
 fn number_field(alloc: Global, value: &Value, key: &str) -> Result<u32, Or<Refusal>>
     ensures { Gives result (number_field key.now (view value.now)) }
 {
@@ -127,7 +129,8 @@ fn end_field(alloc: Global, value: &Value) -> Result<End, Or<Refusal>>
     given(alloc, text_at(value, "end").and_then(end_of), "end")
 }
 
-/// Flood values, which may be absent; nothing where they are wrong.
+/// Returns the H-VTEC values of the member `flood`, `Some(None)` if there is no such member, or
+/// `None` if it is wrong.
 fn flood_or_none(value: &Value) -> Option<Option<Flood>>
     ensures { result ≡ flood_or_none (get (codes "flood") (view value.now)) }
 {
@@ -146,7 +149,8 @@ fn flood_field(alloc: Global, value: &Value) -> Result<Option<Flood>, Or<Refusal
     given(alloc, flood_or_none(value), "flood")
 }
 
-/// Texts, which are empty where they are absent; nothing where they are wrong.
+/// Returns the texts of the member `texts`, empty ones if there is no such member, or `None` if it
+/// is wrong.
 fn texts_or_empty(alloc: Global, value: &Value) -> Result<Option<Texts>, Oom>
     ensures { IfOk result (λ texts. texts ≡ texts_or_empty (get (codes "texts") (view value.now))) }
 {
@@ -168,9 +172,11 @@ fn texts_field(alloc: Global, value: &Value) -> Result<Texts, Or<Refusal>>
     given(alloc, texts, "texts")
 }
 
-/// The texts of a correction, of which there are none where they are absent; nothing where they are wrong.
+/// Returns the texts of a correction, an empty list if there is no member `texts`, or `None` if it
+/// is wrong.
 fn event_texts_or_none(alloc: Global, value: &Value) -> Result<Option<List<EventTexts>>, Oom>
-    ensures { IfOk result (λ texts. texts ≡ event_texts_or_none (get (codes "texts") (view value.now))) }
+    ensures { IfOk result (λ texts. texts
+        ≡ event_texts_or_none (get (codes "texts") (view value.now))) }
 {
     match value.get("texts") {
         None => Ok(Some(List::new(alloc))),
@@ -188,7 +194,10 @@ fn event_texts_field(alloc: Global, value: &Value) -> Result<List<EventTexts>, O
     given(alloc, texts, "texts")
 }
 
-/// What a put is about: exactly one of hazard and event is there.
+/// Returns the event that a put is on. If both or neither of `hazard` and `event` are there, the
+/// wrong field is `hazard`.
+///
+/// Source: docs/DECISIONS.md, "Requests".
 fn target_field(alloc: Global, value: &Value) -> Result<Target, Or<Refusal>>
     ensures { Gives result (target_field (view value.now)) }
 {
@@ -262,7 +271,7 @@ fn routine_part(alloc: Global, value: &Value) -> Result<RoutinePart, Or<Refusal>
     })
 }
 
-/// The fields that follow the draft.
+/// Returns the request on a draft, from the fields that follow `draft`.
 #[tactic(auto, unfolding(crate::specs::Form::draft_in))]
 fn draft_in(alloc: Global, verb: Verb, draft: u32, value: &Value) -> Result<Request, Or<Refusal>>
     ensures { Gives result (draft_in verb draft (view value.now)) }
@@ -279,7 +288,7 @@ fn draft_in(alloc: Global, verb: Verb, draft: u32, value: &Value) -> Result<Requ
     }
 }
 
-/// The further fields of a request that names a draft.
+/// Returns the request on a draft, from its field `draft` and those that follow.
 #[tactic(auto, unfolding(crate::specs::Form::draft_request))]
 fn draft_request(alloc: Global, verb: Verb, value: &Value) -> Result<Request, Or<Refusal>>
     ensures { Gives result (draft_request verb (view value.now)) }
@@ -288,7 +297,7 @@ fn draft_request(alloc: Global, verb: Verb, value: &Value) -> Result<Request, Or
     draft_in(alloc, verb, draft, value)
 }
 
-/// The further fields of a request, in their order.
+/// Returns the request, from the fields that follow `do`.
 #[tactic(auto, unfolding(crate::specs::Form::request_in))]
 fn request_in(alloc: Global, verb: Verb, value: &Value) -> Result<Request, Or<Refusal>>
     ensures { Gives result (request_in verb (view value.now)) }
@@ -304,14 +313,16 @@ fn request_in(alloc: Global, verb: Verb, value: &Value) -> Result<Request, Or<Re
     }
 }
 
-/// What was read, where each key is one of these.
+/// Returns the value that was read, or `WrongShape` with `?` if a key is unknown.
 fn known<T: Drop>(
     alloc: Global,
     keys: Keys,
     members: &Map<String, Value>,
     read: T,
 ) -> Result<T, Or<Refusal>>
-    ensures { Gives result (if all_known keys (members_view members.now.entries) then Ok read else Err (Refusal.WrongShape (codes "?"))) }
+    ensures { Gives result (if all_known keys (members_view members.now.entries)
+        then Ok read
+        else Err (Refusal.WrongShape (codes "?"))) }
 {
     if keys.know_all(members) {
         Ok(read)
@@ -320,7 +331,7 @@ fn known<T: Drop>(
     }
 }
 
-/// What a JSON value asks.
+/// Returns the request that a JSON value is, with its desk and number.
 #[tactic(auto, unfolding(crate::specs::Form::asked_in))]
 fn asked_in(alloc: Global, value: &Value) -> Result<Asked, Or<Refusal>>
     ensures { Gives result (asked_in (view value.now)) }
@@ -335,10 +346,11 @@ fn asked_in(alloc: Global, value: &Value) -> Result<Asked, Or<Refusal>>
     known(alloc, verb.keys(), members, Asked { desk, seq, request })
 }
 
-/// The JSON value that the bytes are.
+/// Returns the JSON value that the bytes are, or `NotJson`.
 fn read_json(alloc: Global, bytes: &[u8]) -> Result<Value, Or<Refusal>>
     ensures ok { IfOk result (λ value. json_of bytes.now ≡ Some (view value)) }
-    ensures refused { (refusal : Refused) → result ≡ Err (Or.No refusal) → json_of bytes.now ≡ None }
+    ensures refused { (refusal : Refused) → result ≡ Err (Or.No refusal) →
+        json_of bytes.now ≡ None }
     ensures named { (refusal : Refused) → result ≡ Err (Or.No refusal) → refusal ≡ Refusal.NotJson }
 {
     match Value::from_slice(alloc, bytes) {
@@ -353,11 +365,15 @@ fn read_json(alloc: Global, bytes: &[u8]) -> Result<Value, Or<Refusal>>
     }
 }
 
-/// Reads a request. What is read has the form of a request: its values are in their ranges, and its texts are UTF-8.
+/// Returns the request that the bytes are, with its desk and number. It has the form of a request:
+/// its values are in their ranges, and its texts are UTF-8.
 ///
 /// # Errors
 ///
-/// `NotJson`, or `WrongShape` with the first field that is missing or wrong (`?` for an unknown key, `.` for a value that is no object), or want of memory.
+/// `NotJson`; `WrongShape` with the first field that is missing or wrong (`?` for an unknown key,
+/// `.` for a value that is no object); or out of memory.
+///
+/// Source: docs/REQUESTS.md, "The requests"; docs/DECISIONS.md, "Requests".
 #[tactic(auto, unfolding(crate::specs::Form::asked_of), using(crate::proofs::RequestForms::answers_have_form))]
 pub fn read_request(alloc: Global, bytes: &[u8]) -> Result<Asked, Or<Refusal>>
     ensures exact { Gives result (asked_of bytes.now) }
@@ -390,11 +406,13 @@ fn training_issue_in(alloc: Global, value: &Value) -> Result<PutPart, Or<Refusal
     known(alloc, Keys::Training, members, part)
 }
 
-/// Reads an `issue` line without desk and number, which are unknown keys here.
+/// Returns the put of an issue without desk and number: `desk` and `seq` are unknown keys.
 ///
 /// # Errors
 ///
-/// As `read_request`; a line that is no `issue` has a wrong `do`.
+/// Those of `read_request`; the wrong field of a line that is no issue is `do`.
+///
+/// Source: docs/TRAINING.md.
 #[tactic(auto, unfolding(crate::specs::Form::training_issue_of), using(crate::proofs::RequestForms::issues_have_form))]
 pub fn read_training_issue(alloc: Global, line: &[u8]) -> Result<PutPart, Or<Refusal>>
     ensures exact { Gives result (training_issue_of line.now) }
