@@ -11,7 +11,7 @@ use Rattle.hazard_types.specs.declared.codes.Category.{Category}
 use Rattle.hazard_types.specs.declared.hazard.Event.{Event}
 use Rattle.hazard_types.specs.declared.line.Line.{Line}
 use Rattle.hazard_types.specs.declared.line.Row.{Row}
-use Rattle.hazard_types.specs.declared.request.Intent.{Intent}
+use Rattle.office_types.specs.declared.request.Intent.{Intent}
 use Rattle.event_life.specs.Products.{by_key, row_at}
 use Rattle.event_life.proofs.Puts.{at_key}
 use Rattle.event_numbers.specs.declared.Count.{Count}

@@ -19,7 +19,7 @@ use Rattle.hazard_types.specs.declared.line.Row.{Row}
 use Rattle.hazard_types.specs.declared.period.End.{End}
 use Rattle.hazard_types.specs.declared.period.End.TheVariants.{At, Ufn}
 use Rattle.hazard_types.specs.declared.period.Period.{Period}
-use Rattle.hazard_types.specs.declared.request.PutPart.{PutPart}
+use Rattle.office_types.specs.declared.request.PutPart.{PutPart}
 use Rattle.hazard_types.proofs.Equality.{category_decides, event_decides, zone_itself, zone_one}
 use Rattle.event_life.specs.Bounds.{AreSame, IsBefore, IsNear}
 use Rattle.event_life.specs.Periods.{ends_after, ends_within, is_live, keeps_open, overlaps, same_at, same_end}

@@ -9,9 +9,9 @@ use Rattle.hazard_types.specs.declared.codes.Action.TheVariants.{Cor}
 use Rattle.hazard_types.specs.declared.hazard.Event.{Event}
 use Rattle.hazard_types.specs.declared.line.Line.{Line}
 use Rattle.hazard_types.specs.declared.line.Row.{Row}
-use Rattle.hazard_types.specs.declared.refusal.Refusal.{Refusal}
-use Rattle.hazard_types.specs.declared.request.EventTexts.{EventTexts}
-use Rattle.hazard_types.specs.declared.request.Sent.{Sent}
+use Rattle.office_types.specs.declared.refusal.Refusal.{Refusal}
+use Rattle.office_types.specs.declared.request.EventTexts.{EventTexts}
+use Rattle.office_types.specs.declared.request.Sent.{Sent}
 use Rattle.event_life.specs.Periods.{ends_after, is_live}
 use Rattle.event_life.specs.Products.{by_key, has_higher, has_rows, is_new, is_upgrade, row_at, rows_after}
 use Rattle.event_life.specs.Reordered.{are_lawful}

@@ -12,10 +12,10 @@ use Rattle.hazard_types.specs.Same.{same_zone}
 use Rattle.hazard_types.specs.declared.codes.Category.{Category}
 use Rattle.hazard_types.specs.declared.facts.Facts.{Facts}
 use Rattle.hazard_types.specs.declared.hazard.Hazard.{Hazard}
-use Rattle.hazard_types.specs.declared.request.Intent.{Intent}
-use Rattle.hazard_types.specs.declared.request.Intent.TheVariants.{Put, Finish, Restate, Routine}
-use Rattle.hazard_types.specs.declared.request.Target.{Target}
-use Rattle.hazard_types.specs.declared.request.Target.TheVariants.{Fresh, Join}
+use Rattle.office_types.specs.declared.request.Intent.{Intent}
+use Rattle.office_types.specs.declared.request.Intent.TheVariants.{Put, Finish, Restate, Routine}
+use Rattle.office_types.specs.declared.request.Target.{Target}
+use Rattle.office_types.specs.declared.request.Target.TheVariants.{Fresh, Join}
 use Rattle.hazard_types.proofs.Equality.{category_decides, kind_decides}
 use Rattle.action_planner.specs.Conditions.{AreOfKind, AreZones, Fits, FitsTarget, IsFollowedBy, IsOpenedBy, MayHold}
 use Rattle.action_planner.specs.Fitting.{are_of_kind, are_zones, fits, fits_following, fits_target, may_hold, of_other_kind, opens_with, stand_once}

@@ -7,8 +7,8 @@ use Rattle.hazard_types.specs.Same.{same_hazard, same_event}
 use Rattle.hazard_types.specs.declared.hazard.Event.{Event}
 use Rattle.hazard_types.specs.declared.hazard.Hazard.{Hazard}
 use Rattle.hazard_types.specs.declared.line.Row.{Row}
-use Rattle.hazard_types.specs.declared.refusal.Refusal.{Refusal}
-use Rattle.hazard_types.specs.declared.refusal.Refusal.TheVariants.{NumberHeld}
+use Rattle.office_types.specs.declared.refusal.Refusal.{Refusal}
+use Rattle.office_types.specs.declared.refusal.Refusal.TheVariants.{NumberHeld}
 use Rattle.hazard_types.proofs.Equality.{event_one, event_itself, hazard_one, hazard_itself}
 use Rattle.event_life.specs.Periods.{keeps_open}
 use Rattle.event_life.specs.Printed.{IsOneEvent, HasOneOpen}

@@ -9,7 +9,7 @@ use Rattle.std.specs.Option.{is_none}
 use Rattle.hazard_types.specs.declared.codes.Category.{Category}
 use Rattle.hazard_types.specs.declared.line.Line.{Line}
 use Rattle.hazard_types.specs.declared.line.Row.{Row}
-use Rattle.hazard_types.specs.declared.request.Intent.{Intent}
+use Rattle.office_types.specs.declared.request.Intent.{Intent}
 use Rattle.event_life.specs.declared.life.Breach.{Breach}
 use Rattle.event_life.specs.Table.{breach_of_line}
 use Rattle.event_life.specs.Lives.{opens}

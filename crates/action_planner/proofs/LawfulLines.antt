@@ -8,9 +8,9 @@ use Rattle.hazard_types.specs.declared.codes.Action.TheVariants.{Con}
 use Rattle.hazard_types.specs.declared.codes.Category.{Category}
 use Rattle.hazard_types.specs.declared.hazard.Event.{Event}
 use Rattle.hazard_types.specs.declared.line.Row.{Row}
-use Rattle.hazard_types.specs.declared.refusal.Refusal.{Refusal}
-use Rattle.hazard_types.specs.declared.request.Intent.{Intent}
-use Rattle.hazard_types.specs.declared.request.Intent.TheVariants.{Put, Finish, Restate, Routine}
+use Rattle.office_types.specs.declared.refusal.Refusal.{Refusal}
+use Rattle.office_types.specs.declared.request.Intent.{Intent}
+use Rattle.office_types.specs.declared.request.Intent.TheVariants.{Put, Finish, Restate, Routine}
 use Rattle.event_life.specs.Periods.{ends_after, is_live, keeps_open}
 use Rattle.event_life.specs.Products.{by_key, has_rows, is_held, is_open, row_at}
 use Rattle.event_life.proofs.Puts.{at_key}

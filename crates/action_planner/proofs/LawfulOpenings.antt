@@ -17,7 +17,7 @@ use Rattle.hazard_types.specs.declared.line.Row.{Row}
 use Rattle.event_life.specs.declared.life.Around.{Around}
 use Rattle.event_life.specs.declared.life.Life.{Life}
 use Rattle.hazard_types.specs.declared.codes.Category.{Category}
-use Rattle.hazard_types.specs.declared.request.PutPart.{PutPart}
+use Rattle.office_types.specs.declared.request.PutPart.{PutPart}
 use Rattle.event_life.specs.Periods.{ends_after, same_at}
 use Rattle.hazard_board.specs.Board.{has_period}
 use Rattle.action_planner.specs.Lines.{added_lines, finish_lines, goes_on_beside, is_near_end, is_overlaid, joined_row, line_on, lines_from, lines_in, lines_in_zones, opening_action, planned_lines, put_line, put_line_on, put_period, put_period_on, restate_lines, unless_ended}
@@ -29,10 +29,10 @@ use Rattle.event_life.specs.Products.{is_new, is_routine, life_of, row_at}
 use Rattle.event_life.specs.Openings.{counted_from, is_numbered, numbers_of}
 use Rattle.event_numbers.specs.declared.Count.{Count}
 use Rattle.event_numbers.specs.Counts.{count_of}
-use Rattle.hazard_types.specs.declared.request.Intent.{Intent}
-use Rattle.hazard_types.specs.declared.request.Intent.TheVariants.{Put, Finish, Restate, Routine}
-use Rattle.hazard_types.specs.declared.request.Target.{Target}
-use Rattle.hazard_types.specs.declared.request.Target.TheVariants.{Fresh, Join}
+use Rattle.office_types.specs.declared.request.Intent.{Intent}
+use Rattle.office_types.specs.declared.request.Intent.TheVariants.{Put, Finish, Restate, Routine}
+use Rattle.office_types.specs.declared.request.Target.{Target}
+use Rattle.office_types.specs.declared.request.Target.TheVariants.{Fresh, Join}
 use Rattle.hazard_types.proofs.Equality.{hazard_one}
 use Rattle.action_planner.specs.Placed.{Placed, event_of_intent, event_of_target, is_opening, is_opening_target, new_event, opened, opens_hazard, placed, placed_from, targets_new, zones_of}
 use Rattle.event_life.specs.Table.{breach_of_line, first_of, on_life, on_nothing}

@@ -12,9 +12,9 @@ use Rattle.hazard_types.specs.declared.line.Row.{Row}
 use Rattle.hazard_types.specs.declared.period.End.{End}
 use Rattle.hazard_types.specs.declared.period.End.TheVariants.{At, Ufn}
 use Rattle.hazard_types.specs.declared.period.Period.{Period}
-use Rattle.hazard_types.specs.declared.request.PutPart.{PutPart}
-use Rattle.hazard_types.specs.declared.request.Target.{Target}
-use Rattle.hazard_types.specs.declared.request.Target.TheVariants.{Fresh, Join}
+use Rattle.office_types.specs.declared.request.PutPart.{PutPart}
+use Rattle.office_types.specs.declared.request.Target.{Target}
+use Rattle.office_types.specs.declared.request.Target.TheVariants.{Fresh, Join}
 use Rattle.event_life.specs.declared.life.Around.{Around}
 use Rattle.event_life.specs.declared.life.Breach.{Breach}
 use Rattle.event_life.specs.declared.life.Breach.TheVariants.{TooEarly, PeriodMoved, PeriodSame, TooLate, NoHigher}
@@ -23,7 +23,7 @@ use Rattle.event_life.specs.Table.{first_of, on_continuing, on_ending, prints_be
 use Rattle.event_life.specs.Products.{around_but_higher, has_rows, is_held, is_open, is_upgrade, life_at, life_of, row_at}
 use Rattle.event_life.proofs.Puts.{at_key, at_key-parts}
 use Rattle.hazard_board.specs.Board.{has_period}
-use Rattle.hazard_types.specs.declared.request.Intent.TheVariants.{Put}
+use Rattle.office_types.specs.declared.request.Intent.TheVariants.{Put}
 use Rattle.action_planner.specs.Placed.{Placed, is_opening_target}
 use Rattle.action_planner.specs.Cases.{IsAbsent}
 use Rattle.action_planner.specs.Lines.{minute_of, put_period, put_period_on, printed_begin, opening_action, continuing_line, unless_ended, joined_row, put_line_on, put_line, line_on, is_near_end, is_overlaid, finishing_action, routine_line}

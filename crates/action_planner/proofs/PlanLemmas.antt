@@ -6,7 +6,7 @@ use Rattle.std.specs.List.Sorted.{IsStrictlySortedBy}
 use Rattle.hazard_types.specs.declared.codes.Category.{Category}
 use Rattle.hazard_types.specs.declared.line.Line.{Line}
 use Rattle.hazard_types.specs.declared.line.Row.{Row}
-use Rattle.hazard_types.specs.declared.request.Intent.{Intent}
+use Rattle.office_types.specs.declared.request.Intent.{Intent}
 use Rattle.event_life.specs.Products.{by_key}
 use Rattle.event_numbers.specs.declared.Count.{Count}
 use Rattle.event_life.specs.Reordered.{are_lawful}

@@ -6,11 +6,11 @@ use Rattle.std.proofs.lemmas.List.Elements.{All-from_recursion}
 use Rattle.hazard_types.specs.declared.codes.Category.{Category}
 use Rattle.hazard_types.specs.declared.line.Line.{Line}
 use Rattle.hazard_types.specs.declared.line.Row.{Row}
-use Rattle.hazard_types.specs.declared.request.Intent.{Intent}
+use Rattle.office_types.specs.declared.request.Intent.{Intent}
 use Rattle.hazard_board.specs.Clashes.{least_clash}
 use Rattle.hazard_board.specs.Taken.{rows_taken}
 use Rattle.event_numbers.specs.declared.Count.{Count}
-use Rattle.hazard_types.specs.declared.refusal.Refusal.{Refusal}
+use Rattle.office_types.specs.declared.refusal.Refusal.{Refusal}
 use Rattle.action_planner.specs.declared.rules.Rule.{Rule}
 use Rattle.action_planner.specs.Placed.{Placed, placed, placed_from}
 use Rattle.action_planner.specs.Lines.{planned_lines}

@@ -14,13 +14,13 @@ use Rattle.hazard_types.specs.declared.line.Flood.{Flood}
 use Rattle.hazard_types.specs.declared.line.Row.{Row}
 use Rattle.hazard_types.specs.declared.period.End.{End}
 use Rattle.hazard_types.specs.declared.period.End.TheVariants.{At, Ufn}
-use Rattle.hazard_types.specs.declared.refusal.Refusal.{Refusal}
-use Rattle.hazard_types.specs.declared.refusal.Refusal.TheVariants as refusal
-use Rattle.hazard_types.specs.declared.request.Intent.{Intent}
-use Rattle.hazard_types.specs.declared.request.Intent.TheVariants.{Put, Finish, Restate, Routine}
-use Rattle.hazard_types.specs.declared.request.PutPart.{PutPart}
-use Rattle.hazard_types.specs.declared.request.Target.{Target}
-use Rattle.hazard_types.specs.declared.request.Target.TheVariants.{Fresh, Join}
+use Rattle.office_types.specs.declared.refusal.Refusal.{Refusal}
+use Rattle.office_types.specs.declared.refusal.Refusal.TheVariants as refusal
+use Rattle.office_types.specs.declared.request.Intent.{Intent}
+use Rattle.office_types.specs.declared.request.Intent.TheVariants.{Put, Finish, Restate, Routine}
+use Rattle.office_types.specs.declared.request.PutPart.{PutPart}
+use Rattle.office_types.specs.declared.request.Target.{Target}
+use Rattle.office_types.specs.declared.request.Target.TheVariants.{Fresh, Join}
 use Rattle.event_life.specs.Periods.{ends_after, is_live, keeps_open}
 use Rattle.event_life.specs.Products.{is_open, row_at}
 use Rattle.hazard_board.specs.Clashes.{least_clash}

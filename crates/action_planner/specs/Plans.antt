@@ -3,7 +3,7 @@ use Rattle.std.specs.Prelude.{◌≡◌, ℕ, List, None}
 use Rattle.hazard_types.specs.declared.codes.Category.{Category}
 use Rattle.hazard_types.specs.declared.line.Line.{Line}
 use Rattle.hazard_types.specs.declared.line.Row.{Row}
-use Rattle.hazard_types.specs.declared.request.Plan.{Plan}
+use Rattle.office_types.specs.declared.request.Plan.{Plan}
 use Rattle.segmenter.specs.Segments.{AreSegments}
 use Rattle.action_planner.specs.Placed.{Placed, opened}
 use Rattle.action_planner.specs.Lines.{planned_lines}

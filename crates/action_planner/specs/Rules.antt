@@ -3,7 +3,7 @@ use Rattle.std.specs.Prelude.{ℕ, List, [], ◌∷◌, length, map, Option, opt
 use Rattle.std.specs.Option.{option_or}
 use Rattle.hazard_types.specs.declared.line.Line.{Line}
 use Rattle.hazard_types.specs.declared.line.Row.{Row}
-use Rattle.hazard_types.specs.declared.refusal.Refusal.{Refusal}
+use Rattle.office_types.specs.declared.refusal.Refusal.{Refusal}
 use Rattle.hazard_board.specs.Clashes.{least_clash}
 use Rattle.hazard_board.specs.Taken.{rows_taken}
 use Rattle.action_planner.specs.declared.rules.Rule.{Rule}

@@ -3,8 +3,8 @@ use Rattle.std.specs.Prelude.{Bool, true, List, [], ◌∷◌, length, map, Opti
 use Rattle.hazard_types.specs.declared.hazard.Event.{Event}
 use Rattle.hazard_types.specs.declared.line.Flood.{Flood}
 use Rattle.hazard_types.specs.declared.line.Row.{Row}
-use Rattle.hazard_types.specs.declared.request.Intent.{Intent}
-use Rattle.hazard_types.specs.declared.request.Intent.TheVariants.{Put, Finish, Restate, Routine}
+use Rattle.office_types.specs.declared.request.Intent.{Intent}
+use Rattle.office_types.specs.declared.request.Intent.TheVariants.{Put, Finish, Restate, Routine}
 use Rattle.event_life.specs.Openings.{add_event, numbers_of}
 use Rattle.event_numbers.specs.declared.Count.{Count}
 

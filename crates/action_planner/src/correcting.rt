@@ -2,7 +2,7 @@
 ghost use Rattle.std.specs.Prelude.{◌≡◌, ◌≤◌, Some, None, Err, IfOk, OnOk, MatchOption, IsTrue};
 ghost use Rattle.std.specs.Option.{option_or};
 ghost use Rattle.hazard_types.specs.declared.or.Or.TheVariants.{No};
-ghost use Rattle.hazard_types.specs.declared.refusal.Refusal.{Refusal as Refused};
+ghost use Rattle.office_types.specs.declared.refusal.Refusal.{Refusal as Refused};
 ghost use Rattle.event_life.specs.Products.{by_key, row_at};
 ghost use Rattle.event_life.specs.Reordered.{are_lawful};
 ghost use Rattle.std.specs.List.Sorted.{IsStrictlySortedBy};
@@ -15,9 +15,8 @@ use crate::rules::{conflict, too_many};
 use crate::texts::{copied, events_of, no_texts};
 use event_life::is_live;
 use hazard_board::Board;
-use hazard_types::{
-    Action, Event, EventTexts, Line, List, Minute, Oom, Or, Plan, Refusal, Row, Sent, Texts,
-};
+use hazard_types::{Action, Event, Line, List, Minute, Oom, Or, Row};
+use office_types::{EventTexts, Plan, Refusal, Sent, Texts};
 use segmenter::segments;
 use std::alloc::Global;
 

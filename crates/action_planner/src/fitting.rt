@@ -10,7 +10,8 @@ ghost use Rattle.action_planner.specs.Standing.{IsKnown};
 use crate::lines::follows;
 use crate::placed::zones_of;
 use hazard_types::desk_hazards::facts;
-use hazard_types::{Category, Draft, Facts, Hazard, Intent, Target, Zone};
+use hazard_types::{Category, Facts, Hazard, Zone};
+use office_types::{Draft, Intent, Target};
 
 /// The most intents of a draft.
 pub const MOST_INTENTS: usize = 64;

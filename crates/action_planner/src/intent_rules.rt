@@ -12,7 +12,8 @@ use crate::zone_rules::joins_by;
 use event_life::ends_after;
 use hazard_board::Board;
 use hazard_types::desk_hazards::facts;
-use hazard_types::{End, Event, Flood, Hazard, Intent, Minute, PutPart, Refusal, Row};
+use hazard_types::{End, Event, Flood, Hazard, Minute, Row};
+use office_types::{Intent, PutPart, Refusal};
 
 /// Whether the event is open: whether it is the board's open event of its hazard and number.
 fn is_open(board: &Board, t: Minute, event: &Event) -> bool

@@ -8,7 +8,7 @@ ghost use Rattle.hazard_types.specs.declared.line.Flood.{Flood};
 ghost use Rattle.hazard_types.specs.declared.line.Line.{Line};
 ghost use Rattle.hazard_types.specs.declared.line.Row.{Row};
 ghost use Rattle.hazard_types.specs.declared.period.End.TheVariants.{At};
-ghost use Rattle.hazard_types.specs.declared.request.Intent.{Intent};
+ghost use Rattle.office_types.specs.declared.request.Intent.{Intent};
 ghost use Rattle.event_numbers.specs.declared.Count.{Count};
 ghost use Rattle.action_planner.specs.Conditions.{AreNumbered, AreSited, CanPlan, needs_values};
 ghost use Rattle.action_planner.specs.Corrections.{corrected_lines};

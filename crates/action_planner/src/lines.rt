@@ -18,8 +18,9 @@ use crate::spoken::Spoken;
 use event_life::{ends_after, is_live};
 use hazard_types::desk_hazards::facts;
 use hazard_types::{
-    Action, Category, End, Event, Hazard, Intent, Line, List, Minute, Oom, Row, Zone, is_flood,
+    Action, Category, End, Event, Hazard, Line, List, Minute, Oom, Row, Zone, is_flood,
 };
+use office_types::Intent;
 use std::alloc::Global;
 
 /// Returns the line with this action that says the period and flood values of a row.

@@ -3,7 +3,8 @@ ghost use Rattle.std.specs.Prelude.{◌≡◌, ◌<◌, ◌≤◌, count_by, len
 ghost use Rattle.action_planner.specs.Placed.{zones_of, placed, opens_hazard, new_event, event_of_intent, is_opening, opened};
 
 use event_numbers::Numbers;
-use hazard_types::{Event, Hazard, Intent, List, Minute, Oom, Target, Zone, year_of};
+use hazard_types::{Event, Hazard, List, Minute, Oom, Zone, year_of};
+use office_types::{Intent, Target};
 use std::alloc::Global;
 use std::marker::Model;
 

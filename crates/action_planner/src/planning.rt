@@ -2,7 +2,7 @@
 ghost use Rattle.std.specs.Prelude.{◌≡◌, ◌↔◌, Some, None, Err, IfOk, OnOk, IsTrue, Contains};
 ghost use Rattle.hazard_types.specs.declared.line.Line.{Line as SaidLine};
 ghost use Rattle.hazard_types.specs.declared.or.Or.TheVariants.{No};
-ghost use Rattle.hazard_types.specs.declared.refusal.Refusal.{Refusal as Refused};
+ghost use Rattle.office_types.specs.declared.refusal.Refusal.{Refusal as Refused};
 ghost use Rattle.event_life.specs.Reordered.{are_lawful};
 ghost use Rattle.action_planner.specs.Cases.{IsPlanned};
 ghost use Rattle.action_planner.specs.Conditions.{CanPlan};
@@ -19,7 +19,8 @@ use crate::spoken::Spoken;
 use crate::texts::event_texts;
 use event_numbers::Numbers;
 use hazard_board::Board;
-use hazard_types::{Category, Draft, Line, List, Minute, Oom, Or, Plan, Refusal};
+use hazard_types::{Category, Line, List, Minute, Oom, Or};
+use office_types::{Draft, Plan, Refusal};
 use segmenter::segments;
 use std::alloc::Global;
 

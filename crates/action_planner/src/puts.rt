@@ -5,7 +5,8 @@ ghost use Rattle.action_planner.specs.Lines.{minute_of, put_period, put_period_o
 
 use event_life::same_at;
 use hazard_board::Board;
-use hazard_types::{Action, Begin, Event, Line, Minute, Period, PutPart, Row, Target, Zone};
+use hazard_types::{Action, Begin, Event, Line, Minute, Period, Row, Zone};
+use office_types::{PutPart, Target};
 
 /// Returns the minute of a begin: `t`, the minute of issue, for `Begin::Now`.
 pub fn minute_of(begin: &Begin, t: Minute) -> Minute

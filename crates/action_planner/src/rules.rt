@@ -17,7 +17,8 @@ use crate::placed::Placed;
 use crate::spoken::Spoken;
 use crate::zone_rules::{gone, left_before, moved, shared};
 use hazard_board::Board;
-use hazard_types::{Line, List, Minute, Oom, Refusal};
+use hazard_types::{Line, List, Minute, Oom};
+use office_types::Refusal;
 use std::alloc::Global;
 
 /// A rule on single intents, named as its refusal.

@@ -11,7 +11,8 @@ ghost use Rattle.action_planner.specs.Placed.{zones_of, touches, speaks};
 ghost use Rattle.action_planner.specs.Spoken.{speakers_with, add_spot, add_spots, spots_from, add_zones, zones_from, is_taken, has_other};
 
 use crate::placed::{Placed, zones_of};
-use hazard_types::{Event, Intent, List, Oom, Zone};
+use hazard_types::{Event, List, Oom, Zone};
+use office_types::Intent;
 use std::alloc::Global;
 use std::collections::{BTreeMap, BTreeSet};
 use std::marker::Model;

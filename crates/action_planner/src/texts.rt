@@ -4,7 +4,8 @@ ghost use Rattle.event_life.specs.Openings.{add_event};
 ghost use Rattle.action_planner.specs.Texts.{texts_of, no_texts, texts_on, events_of, event_texts};
 
 use crate::placed::Placed;
-use hazard_types::{Event, EventTexts, Intent, Line, List, Oom, Texts};
+use hazard_types::{Event, Line, List, Oom};
+use office_types::{EventTexts, Intent, Texts};
 use std::alloc::Global;
 use std::collections::BTreeSet;
 

@@ -7,7 +7,7 @@ ghost use Rattle.hazard_types.specs.declared.hazard.Hazard.{Hazard};
 ghost use Rattle.hazard_types.specs.declared.line.Line.{Line};
 ghost use Rattle.hazard_types.specs.declared.line.Row.{Row};
 ghost use Rattle.hazard_types.specs.declared.line.Segment.{Segment};
-ghost use Rattle.hazard_types.specs.declared.request.Intent.{Intent};
+ghost use Rattle.office_types.specs.declared.request.Intent.{Intent};
 ghost use Rattle.event_life.specs.Openings.{numbers_of, opened_by};
 ghost use Rattle.event_life.specs.Products.{by_key, rows_after};
 ghost use Rattle.event_life.specs.Reordered.{are_lawful};

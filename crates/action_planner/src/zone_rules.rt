@@ -11,7 +11,8 @@ use crate::puts::minute_of;
 use crate::spoken::Spoken;
 use event_life::{is_live, keeps_open};
 use hazard_board::Board;
-use hazard_types::{Event, Intent, Minute, Refusal, Target, Zone};
+use hazard_types::{Event, Minute, Zone};
+use office_types::{Intent, Refusal, Target};
 
 /// Whether the event has an open row in the zone.
 fn has_open_row(board: &Board, t: Minute, event: &Event, zone: &Zone) -> bool

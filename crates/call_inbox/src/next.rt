@@ -9,7 +9,7 @@ use crate::inbox::Inbox;
 use crate::watch::Watch;
 use desk_links::Link;
 use desk_traits::Failed;
-use hazard_types::Refusal;
+use office_types::Refusal;
 use std::alloc::Global;
 use warn_http::{
     Call, HttpRead, Routes, heads_end_with_a_line_feed, read_call, unfinished_calls_are_not_whole,

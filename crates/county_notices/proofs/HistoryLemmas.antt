@@ -16,7 +16,7 @@ use Rattle.hazard_board.proofs.NumberLemmas.{have_one_open}
 use Rattle.action_planner.specs.Lines.{is_near_end, joined_row}
 use Rattle.action_planner.proofs.LawfulKeys.{either_action}
 use Rattle.hazard_types.specs.declared.codes.Action.TheVariants.{Can, Exp}
-use Rattle.hazard_types.specs.declared.request.Target.TheVariants.{Join}
+use Rattle.office_types.specs.declared.request.Target.TheVariants.{Join}
 use Rattle.notice_json.specs.declared.command.Command.{Command}
 use Rattle.notice_json.specs.declared.command.Deed.{Deed}
 use Rattle.notice_json.specs.declared.command.Deed.TheVariants as deed

@@ -10,9 +10,9 @@ use Rattle.hazard_types.specs.declared.hazard.Event.{Event}
 use Rattle.hazard_types.specs.declared.hazard.Hazard.{Hazard}
 use Rattle.hazard_types.specs.declared.line.Line.{Line}
 use Rattle.hazard_types.specs.declared.line.Row.{Row}
-use Rattle.hazard_types.specs.declared.request.Intent.TheVariants.{Put}
-use Rattle.hazard_types.specs.declared.request.Target.{Target}
-use Rattle.hazard_types.specs.declared.request.Target.TheVariants.{Fresh, Join}
+use Rattle.office_types.specs.declared.request.Intent.TheVariants.{Put}
+use Rattle.office_types.specs.declared.request.Target.{Target}
+use Rattle.office_types.specs.declared.request.Target.TheVariants.{Fresh, Join}
 use Rattle.hazard_types.proofs.Equality.{event_itself, hazard_one, zone_itself}
 use Rattle.event_life.specs.Periods.{keeps_open, same_at}
 use Rattle.event_life.specs.Products.{going_in, has_rows, is_held, is_new, is_open, is_routine, is_upgrade, later_event, row_at}

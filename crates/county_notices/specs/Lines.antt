@@ -9,9 +9,9 @@ use Rattle.hazard_types.specs.declared.line.Line.{Line}
 use Rattle.hazard_types.specs.declared.line.Row.{Row}
 use Rattle.hazard_types.specs.declared.period.Begin.TheVariants.{Now}
 use Rattle.hazard_types.specs.declared.period.End.TheVariants.{At}
-use Rattle.hazard_types.specs.declared.request.PutPart.{PutPart}
-use Rattle.hazard_types.specs.declared.request.Target.{Target}
-use Rattle.hazard_types.specs.declared.request.Target.TheVariants.{Fresh, Join}
+use Rattle.office_types.specs.declared.request.PutPart.{PutPart}
+use Rattle.office_types.specs.declared.request.Target.{Target}
+use Rattle.office_types.specs.declared.request.Target.TheVariants.{Fresh, Join}
 use Rattle.event_life.specs.Products.{going_in, row_at}
 use Rattle.action_planner.specs.Lines.{is_near_end, line_on, opening_action, put_line}
 use Rattle.action_planner.specs.Texts.{no_texts}

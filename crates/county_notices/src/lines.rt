@@ -1,6 +1,6 @@
 //! The lines of a command. An unended row is one that no line has ended.
 ghost use Rattle.std.specs.Prelude.{◌≡◌, ◌++◌, IfOk, OnOk};
-ghost use Rattle.hazard_types.specs.declared.request.Target.TheVariants.{Fresh, Join};
+ghost use Rattle.office_types.specs.declared.request.Target.TheVariants.{Fresh, Join};
 ghost use Rattle.action_planner.specs.Lines.{continuing_line, is_near_end, line_on, opening_action, opening_line_by, printed_begin, put_line, put_period_on, unless_ended};
 ghost use Rattle.county_notices.specs.Lines.{new_event, open_event, event_by, put_of, entering_action, ending_action, ending_lines, lines_in, lines_in_zones, lines_of};
 

@@ -5,8 +5,8 @@ use Rattle.std.proofs.lemmas.List.{take-append-drop, take_all}
 use Rattle.desk_traits.specs.Faults.{Rose}
 use Rattle.byte_streams.specs.Flows.{Adds, Outflow}
 use Rattle.byte_streams.proofs.Pieces.{adds_both}
-use Rattle.hazard_types.specs.declared.refusal.Refusal.{Refusal}
-use Rattle.hazard_types.specs.declared.request.Sent.{Sent}
+use Rattle.office_types.specs.declared.refusal.Refusal.{Refusal}
+use Rattle.office_types.specs.declared.request.Sent.{Sent}
 use Rattle.office_core.specs.Agreement.{texts_of}
 use Rattle.office_core.specs.Look.{LacksProduct, ShowsProduct}
 use Rattle.office_core.specs.State.{State, product_at}

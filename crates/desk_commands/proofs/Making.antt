@@ -10,7 +10,7 @@ use Rattle.desk_traits.specs.declared.disk.Disk.{Ghosts as Disks}
 use Rattle.desk_traits.specs.Faults.{Rose}
 use Rattle.desk_traits.specs.File.{Only}
 use Rattle.byte_streams.specs.Flows.{IsAtEnd}
-use Rattle.hazard_types.specs.declared.request.Edition.TheVariants.{Two}
+use Rattle.office_types.specs.declared.request.Edition.TheVariants.{Two}
 use Rattle.journal_core.specs.Image.{Fresh}
 use Rattle.office_journal.specs.Changes.{Change, Leaves}
 use Rattle.office_journal.specs.Histories.{History, ImageOf, empty}

@@ -6,7 +6,7 @@ use Rattle.desk_traits.specs.Faults.{Rose}
 use Rattle.desk_traits.specs.declared.clocks.Clock.{Ghosts as Clocks}
 use Rattle.desk_traits.specs.declared.disk.Disk.{Ghosts as Disks}
 use Rattle.desk_traits.proofs.Moments.{both, ends, nothing, weaker}
-use Rattle.hazard_types.specs.declared.refusal.Refusal.{Refusal}
+use Rattle.office_types.specs.declared.refusal.Refusal.{Refusal}
 use Rattle.request_json.specs.declared.asked.Asked.{Asked}
 use Rattle.office_core.specs.Agreement.{ReadsAsTheBoard}
 use Rattle.office_journal.specs.Changes.{Change, Leaves}

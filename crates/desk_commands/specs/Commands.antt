@@ -12,8 +12,8 @@ use Rattle.desk_traits.specs.declared.disk.Disk.{Ghosts as Disks}
 use Rattle.desk_traits.specs.Faults.{Rose}
 use Rattle.desk_traits.specs.File.{Only}
 use Rattle.byte_streams.specs.Flows.{Inflow, IsAtEnd, Outflow, Streams, Takes}
-use Rattle.hazard_types.specs.declared.request.Edition.{Edition}
-use Rattle.hazard_types.specs.declared.request.Edition.TheVariants.{One, Two}
+use Rattle.office_types.specs.declared.request.Edition.{Edition}
+use Rattle.office_types.specs.declared.request.Edition.TheVariants.{One, Two}
 use Rattle.journal_core.specs.Image.{Fresh}
 use Rattle.office_core.specs.Agreement.{texts_of}
 use Rattle.office_core.specs.Rules.{is_out}

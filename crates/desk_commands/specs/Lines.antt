@@ -1,6 +1,6 @@
 -- Answers as lines.
 use Rattle.std.specs.Prelude.{ℕ, List, ◌++◌, codes}
-use Rattle.hazard_types.specs.declared.refusal.Refusal.{Refusal}
+use Rattle.office_types.specs.declared.refusal.Refusal.{Refusal}
 use Rattle.request_json.specs.Replies.{refusal_text}
 
 -- a text as a line

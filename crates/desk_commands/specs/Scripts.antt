@@ -3,9 +3,9 @@ use Rattle.std.specs.Prelude.{◌≡◌, ◌⊎◌, ◌++◌, ◌+◌, ◌≤◌
 use Rattle.desk_traits.specs.Clocks.{GivesTheSame, Ticks}
 use Rattle.desk_traits.specs.declared.clocks.Clock.{Ghosts as Clocks}
 use Rattle.desk_traits.specs.declared.disk.Disk.{Ghosts as Disks}
-use Rattle.hazard_types.specs.declared.refusal.Refusal.{Refusal}
-use Rattle.hazard_types.specs.declared.refusal.Refusal.TheVariants.{LineTooLong}
-use Rattle.hazard_types.specs.declared.request.Reply.{Reply}
+use Rattle.office_types.specs.declared.refusal.Refusal.{Refusal}
+use Rattle.office_types.specs.declared.refusal.Refusal.TheVariants.{LineTooLong}
+use Rattle.office_types.specs.declared.request.Reply.{Reply}
 use Rattle.request_json.specs.Form.{asked_of}
 use Rattle.request_json.specs.Replies.{disk_fault_text, out_of_memory_text, reply_text}
 use Rattle.request_json.specs.declared.asked.Asked.{Asked}

@@ -8,9 +8,10 @@ use crate::ended::Ended;
 use crate::opening::open;
 use byte_streams::Sink;
 use desk_traits::{Clock, Disk};
-use hazard_types::{Minute, Or, Query};
+use hazard_types::{Minute, Or};
 use office_core::requests_stand_once;
 use office_journal::KeptOffice;
+use office_types::Query;
 use program_ends::{End, end_at_once, tell};
 use std::alloc::Global;
 

@@ -9,9 +9,10 @@ use crate::ended::Ended;
 use crate::opening::open;
 use byte_streams::{Sink, write_whole};
 use desk_traits::{Disk, Failed};
-use hazard_types::{Or, Query};
+use hazard_types::Or;
 use office_core::requests_stand_once;
 use office_journal::KeptOffice;
+use office_types::Query;
 use program_ends::{End, end_at_once, end_run};
 use std::alloc::Global;
 

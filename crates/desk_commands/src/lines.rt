@@ -2,7 +2,8 @@
 ghost use Rattle.std.specs.Prelude.{◌≡◌, IfOk};
 ghost use Rattle.desk_commands.specs.Lines.{refusal_line};
 
-use hazard_types::{Oom, Refusal, Text};
+use hazard_types::{Oom, Text};
+use office_types::Refusal;
 use request_json::refusal_text;
 use std::alloc::Global;
 

@@ -1,8 +1,8 @@
 -- The requests of a drill lead to one office.
 use Rattle.std.proofs.Common.{◌≡◌, inl, inr, ◌∙◌, ◌+◌, ◌++◌, ℕ, ℤ, List, [], ◌∷◌, Option, Some, ap, sym, subst}
-use Rattle.hazard_types.specs.declared.refusal.Refusal.{Refusal}
-use Rattle.hazard_types.specs.declared.request.Request.{Request}
-use Rattle.hazard_types.specs.declared.request.Request.TheVariants.{Issue}
+use Rattle.office_types.specs.declared.refusal.Refusal.{Refusal}
+use Rattle.office_types.specs.declared.request.Request.{Request}
+use Rattle.office_types.specs.declared.request.Request.TheVariants.{Issue}
 use Rattle.office_core.specs.State.{State}
 use Rattle.office_core.specs.Step.{Accepts, Refuses, entry_of, state_after}
 use Rattle.office_core.specs.declared.made.Made.{Made}

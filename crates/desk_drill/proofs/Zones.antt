@@ -9,7 +9,7 @@ use Rattle.std.specs.declared.cmp.Ordering.TheVariants.{Less}
 use Rattle.std.proofs.lemmas.List.Elements.{All-from_recursion}
 use Rattle.std.proofs.lemmas.List.FromFn.{map-range_with_len_more}
 use Rattle.std.proofs.lemmas.Bool.Decides.{nat_tests}
-use Rattle.hazard_types.specs.Desks.{is_desk_name}
+use Rattle.office_types.specs.Desks.{is_desk_name}
 use Rattle.hazard_types.specs.Places.{IsPlace, Place, are_letters, by_place, is_number}
 use Rattle.hazard_types.specs.declared.zone.Kind.TheVariants as kind
 use Rattle.desk_settings.specs.AreSettings.{HasForms, training_headings}

@@ -4,9 +4,9 @@ use Rattle.hazard_types.specs.Places.{Place}
 use Rattle.hazard_types.specs.declared.codes.Class.TheVariants as class
 use Rattle.hazard_types.specs.declared.codes.LocalZone.TheVariants as zone
 use Rattle.hazard_types.specs.declared.hazard.Event.{Event}
-use Rattle.hazard_types.specs.declared.refusal.Refusal.{Refusal}
-use Rattle.hazard_types.specs.declared.request.Edition.TheVariants.{One}
-use Rattle.hazard_types.specs.declared.request.Request.TheVariants.{Issue}
+use Rattle.office_types.specs.declared.refusal.Refusal.{Refusal}
+use Rattle.office_types.specs.declared.request.Edition.TheVariants.{One}
+use Rattle.office_types.specs.declared.request.Request.TheVariants.{Issue}
 use Rattle.desk_settings.specs.AreSettings.{training_headings}
 use Rattle.desk_settings.specs.declared.settings.Settings.{Settings}
 use Rattle.office_core.specs.State.{State, first_state, last_number}

@@ -6,9 +6,9 @@ use Rattle.hazard_types.specs.declared.hazard.Hazard.{Hazard}
 use Rattle.hazard_types.specs.declared.hazard.Sig.TheVariants as sig
 use Rattle.hazard_types.specs.declared.period.Begin.TheVariants as begin
 use Rattle.hazard_types.specs.declared.period.End.TheVariants as end
-use Rattle.hazard_types.specs.declared.request.PutPart.{PutPart}
-use Rattle.hazard_types.specs.declared.request.Target.TheVariants.{Fresh}
-use Rattle.hazard_types.specs.declared.request.Texts.{Texts}
+use Rattle.office_types.specs.declared.request.PutPart.{PutPart}
+use Rattle.office_types.specs.declared.request.Target.TheVariants.{Fresh}
+use Rattle.office_types.specs.declared.request.Texts.{Texts}
 use Rattle.hazard_types.specs.declared.zone.Kind.TheVariants as kind
 use Rattle.desk_drill.specs.Draws.{drawn, next_draw}
 

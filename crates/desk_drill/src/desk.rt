@@ -13,8 +13,9 @@ ghost use Rattle.desk_drill.specs.Tellings.{breaches_in, shown_last};
 use crate::requests::{DrillRequest, desk_at};
 use crate::settings::drill_settings;
 use crate::texts::TextReader;
-use hazard_types::{Class, Edition, Event, List, Minute, Oom, Or, Reply, Request};
+use hazard_types::{Class, Event, List, Minute, Oom, Or};
 use office_core::{Office, Prepared, Ready, offices_begin_in_agreement};
+use office_types::{Edition, Reply, Request};
 use std::alloc::Global;
 
 /// The office of a drill with its counts. `answer` leads from one such office to the next.

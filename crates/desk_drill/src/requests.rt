@@ -1,7 +1,7 @@
 //! The requests of a drill (docs/DEFINITIONS.md, "desk_drill").
 ghost use Rattle.std.specs.Prelude.{◌≡◌, ◌≤◌, ◌<◌, ◌+◌, ◌%◌, IfOk, IsTrue};
 ghost use Rattle.std.specs.List.{All};
-ghost use Rattle.hazard_types.specs.Desks.{is_desk_name};
+ghost use Rattle.office_types.specs.Desks.{is_desk_name};
 ghost use Rattle.hazard_types.specs.Places.{IsPlace, are_letters};
 ghost use Rattle.request_json.specs.Formed.{IsHazard, IsIssuePart};
 ghost use Rattle.desk_drill.specs.Draws.{next_draw};
@@ -9,9 +9,8 @@ ghost use Rattle.desk_drill.specs.Keeping.{issued_by};
 ghost use Rattle.desk_drill.specs.Requests.{desk_at, hazard_at, letters_at, minute_at, no_texts, part_of, request_at, zone_at, zones_from};
 
 use crate::draws::Draws;
-use hazard_types::{
-    Begin, Desk, End, Hazard, Kind, List, Minute, Oom, Phen, PutPart, Sig, Target, Texts, Zone,
-};
+use hazard_types::{Begin, End, Hazard, Kind, List, Minute, Oom, Phen, Sig, Zone};
+use office_types::{Desk, PutPart, Target, Texts};
 use std::alloc::Global;
 
 /// The minute 180101T0000Z, since 2000-01-01T00:00Z UTC.

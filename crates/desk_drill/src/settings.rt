@@ -5,7 +5,8 @@ ghost use Rattle.desk_drill.specs.Office.{drill_desks, drill_settings, drill_zon
 
 use crate::requests::{desk_at, zones_from};
 use desk_settings::Settings;
-use hazard_types::{Desk, List, LocalZone, Oom, Text, Zone};
+use hazard_types::{List, LocalZone, Oom, Text, Zone};
+use office_types::Desk;
 use std::alloc::Global;
 
 /// The number of zones.

@@ -3,19 +3,19 @@ use Rattle.std.proofs.Common.{◌≡◌, ◌≤◌, ◌<◌, ◌==◌, ◌+◌, 
 use Rattle.std.proofs.lemmas.Bool.Decides.{nat_tests}
 use Rattle.std.proofs.lemmas.Bool.{ne_eqb}
 use Rattle.std.specs.Option.{option_or}
-use Rattle.hazard_types.specs.declared.refusal.Refusal.TheVariants as refusal
-use Rattle.hazard_types.specs.declared.request.Entry.{Entry}
-use Rattle.hazard_types.specs.declared.request.Plan.{Plan}
-use Rattle.hazard_types.specs.declared.request.PutPart.{PutPart}
-use Rattle.hazard_types.specs.declared.request.Reply.{Reply as Kept}
-use Rattle.hazard_types.specs.declared.request.Request.TheVariants.{Issue}
+use Rattle.office_types.specs.declared.refusal.Refusal.TheVariants as refusal
+use Rattle.office_types.specs.declared.request.Entry.{Entry}
+use Rattle.office_types.specs.declared.request.Plan.{Plan}
+use Rattle.office_types.specs.declared.request.PutPart.{PutPart}
+use Rattle.office_types.specs.declared.request.Reply.{Reply as Kept}
+use Rattle.office_types.specs.declared.request.Request.TheVariants.{Issue}
 use Rattle.office_core.specs.Agreement.{ReadsAsTheBoard}
 use Rattle.office_core.specs.Making.{broken_product, issued, made_of, products_full}
 use Rattle.office_core.specs.Rules.{minute_of}
 use Rattle.office_core.specs.State.{State, last_number, last_of}
 use Rattle.office_core.specs.Step.{Accepts, Repeats, entry_of, state_after}
 use Rattle.office_core.specs.declared.made.Made.{Made}
-use Rattle.hazard_types.specs.declared.refusal.Refusal.TheVariants.{LineTooLong}
+use Rattle.office_types.specs.declared.refusal.Refusal.TheVariants.{LineTooLong}
 use Rattle.program_ends.specs.Replies.{bytes_of}
 use Rattle.program_ends.specs.declared.reply.Reply.{Reply}
 use Rattle.desk_commands.specs.Lines.{refusal_line}

@@ -1,11 +1,11 @@
 -- The training office: what each line is answered.
 use Rattle.std.specs.Prelude.{◌≡◌, ◌≤◌, ◌⊎◌, ◌+◌, ℕ, pos, List, [], ◌∷◌, length, Option, Some, None, Result, Ok, Err, codes}
 use Rattle.hazard_types.specs.declared.codes.Class.TheVariants as class
-use Rattle.hazard_types.specs.declared.refusal.Refusal.{Refusal}
-use Rattle.hazard_types.specs.declared.refusal.Refusal.TheVariants.{LineTooLong}
-use Rattle.hazard_types.specs.declared.request.Edition.TheVariants.{One}
-use Rattle.hazard_types.specs.declared.request.PutPart.{PutPart}
-use Rattle.hazard_types.specs.declared.request.Request.TheVariants.{Issue}
+use Rattle.office_types.specs.declared.refusal.Refusal.{Refusal}
+use Rattle.office_types.specs.declared.refusal.Refusal.TheVariants.{LineTooLong}
+use Rattle.office_types.specs.declared.request.Edition.TheVariants.{One}
+use Rattle.office_types.specs.declared.request.PutPart.{PutPart}
+use Rattle.office_types.specs.declared.request.Request.TheVariants.{Issue}
 use Rattle.desk_settings.specs.AreSettings.{training_of}
 use Rattle.request_json.specs.Form.{training_issue_of}
 use Rattle.office_core.specs.Agreement.{ReadsAsTheBoard}

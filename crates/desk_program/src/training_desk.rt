@@ -15,8 +15,9 @@ ghost use Rattle.desk_program.specs.Training.{Lacks, dry_desk, first_training};
 
 use crate::words::Dry;
 use desk_settings::training_settings;
-use hazard_types::{Class, Desk, Edition, Minute, Oom, Or, PutPart, Refusal, Request, Text};
+use hazard_types::{Class, Minute, Oom, Or, Text};
 use office_core::{Office, Prepared, Ready, offices_begin_in_agreement};
+use office_types::{Desk, Edition, PutPart, Refusal, Request};
 use program_ends::{Answers, Reply};
 use request_json::{read_training_issue, refusal_text};
 use std::alloc::Global;

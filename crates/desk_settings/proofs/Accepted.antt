@@ -14,7 +14,7 @@ use Rattle.std.proofs.lemmas.Map.Views.{All-keys-insert_entry, All-values-insert
 use Rattle.toml.specs.Data.{Items, no_items, item, Members, no_members, member, as_str, as_array, as_table}
 use Rattle.hazard_types.specs.Given.{Gives, ◌>>=◌}
 use Rattle.hazard_types.specs.declared.or.Or.{Or}
-use Rattle.hazard_types.specs.Desks.{is_desk_name}
+use Rattle.office_types.specs.Desks.{is_desk_name}
 use Rattle.hazard_types.specs.Places.{Place, IsPlace, by_place}
 use Rattle.hazard_types.specs.declared.codes.LocalZone.{LocalZone}
 use Rattle.hazard_types.proofs.OrderLaws.{by_place_total}

@@ -4,7 +4,7 @@ use Rattle.std.specs.List.{AllByRecursion, IsDistinct, list_all}
 use Rattle.std.specs.List.Sorted.{IsStrictlySortedBy}
 use Rattle.std.proofs.lemmas.List.Elements.{All-nil, All-from_recursion}
 use Rattle.std.proofs.lemmas.Bool.Decides.{nat_tests}
-use Rattle.hazard_types.specs.Desks.{is_desk_name}
+use Rattle.office_types.specs.Desks.{is_desk_name}
 use Rattle.hazard_types.specs.Places.{IsPlace}
 use Rattle.hazard_types.specs.declared.list.Oom.{Oom}
 use Rattle.desk_settings.specs.declared.settings.Settings.{Settings}

@@ -10,7 +10,8 @@ ghost use Rattle.desk_settings.specs.declared.fault.SettingsFault.TheVariants.{B
 use crate::fault::SettingsFault;
 use crate::forms::{heading_in, is_office_line, is_zone_name, local_zone_in, office_in, site_in};
 use crate::keys::{Key, text_at, value_at};
-use hazard_types::{Category, Desk, List, LocalZone, Oom, Or, Text, Zone, zone_in};
+use hazard_types::{Category, List, LocalZone, Oom, Or, Text, Zone, zone_in};
+use office_types::Desk;
 use std::alloc::Global;
 use toml::{Table, Value};
 

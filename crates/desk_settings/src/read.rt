@@ -13,7 +13,8 @@ use crate::fields::{
 };
 use crate::keys::{Key, missing_key};
 use crate::settings::{Settings, is_among};
-use hazard_types::{Desk, Or};
+use hazard_types::Or;
+use office_types::Desk;
 use std::alloc::Global;
 use toml::Table;
 

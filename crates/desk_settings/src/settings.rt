@@ -6,7 +6,8 @@ ghost use Rattle.std.specs.Map.{keys_of};
 ghost use Rattle.std.specs.Str.{bytes_eq};
 ghost use Rattle.hazard_types.specs.Places.{by_place};
 
-use hazard_types::{Category, Desk, List, LocalZone, Text, Zone};
+use hazard_types::{Category, List, LocalZone, Text, Zone};
+use office_types::Desk;
 
 /// The settings of an office.
 ///

@@ -4,7 +4,8 @@ ghost use Rattle.hazard_types.specs.Characters.{is_office};
 ghost use Rattle.desk_settings.specs.AreSettings.{HasForms, training_of, training_headings};
 
 use crate::settings::Settings;
-use hazard_types::{Desk, List, LocalZone, Oom, Text};
+use hazard_types::{List, LocalZone, Oom, Text};
+use office_types::Desk;
 use std::alloc::Global;
 
 /// Returns the heading `XXXX00` for each category.

@@ -21,8 +21,8 @@ use Rattle.hazard_types.specs.declared.line.SegLine.{SegLine}
 use Rattle.hazard_types.specs.declared.line.Segment.{Segment}
 use Rattle.hazard_types.specs.declared.period.End.{End}
 use Rattle.hazard_types.specs.declared.period.End.TheVariants.{At, Ufn}
-use Rattle.hazard_types.specs.declared.request.Edition.TheVariants.{One}
-use Rattle.hazard_types.specs.declared.request.Plan.{Plan}
+use Rattle.office_types.specs.declared.request.Edition.TheVariants.{One}
+use Rattle.office_types.specs.declared.request.Plan.{Plan}
 use Rattle.hazard_types.proofs.Equality.{hazard_one}
 use Rattle.hazard_types.proofs.Stamps.{spells_exactly, stamp_spells}
 use Rattle.desk_settings.specs.declared.settings.Settings.{Settings}

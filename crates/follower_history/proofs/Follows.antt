@@ -2,9 +2,9 @@
 use Rattle.std.proofs.Common.{◌≡◌, ◌∙◌, ◌≤◌, ◌++◌, ℕ, List, [], ◌∷◌, Bool, Option, refl, sym, ap, arith, length, take, drop, append_assoc, Result, Ok, Err}
 use Rattle.std.proofs.lemmas.List.{length-map, length-take, take-append-drop}
 use Rattle.hazard_types.specs.declared.codes.Class.{Class}
-use Rattle.hazard_types.specs.declared.request.Edition.TheVariants.{One}
-use Rattle.hazard_types.specs.declared.request.Entry.{Entry}
-use Rattle.hazard_types.specs.declared.request.Sent.{Sent}
+use Rattle.office_types.specs.declared.request.Edition.TheVariants.{One}
+use Rattle.office_types.specs.declared.request.Entry.{Entry}
+use Rattle.office_types.specs.declared.request.Sent.{Sent}
 use Rattle.desk_settings.specs.declared.settings.Settings.{Settings}
 use Rattle.event_life.specs.Products.{rows_of}
 use Rattle.event_life.specs.Shown.{shown_at}

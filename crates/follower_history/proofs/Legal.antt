@@ -3,10 +3,10 @@ use Rattle.std.proofs.Common.{◌≡◌, ◌∙◌, ◌≤◌, ◌++◌, ℕ, po
 use Rattle.std.proofs.lemmas.List.Elements.{All-nil}
 use Rattle.std.specs.Prelude.{IsOk}
 use Rattle.hazard_types.specs.declared.codes.Class.{Class}
-use Rattle.hazard_types.specs.declared.request.Edition.{Edition}
-use Rattle.hazard_types.specs.declared.request.Edition.TheVariants.{One}
-use Rattle.hazard_types.specs.declared.request.Entry.{Entry}
-use Rattle.hazard_types.specs.declared.request.Request.{Request}
+use Rattle.office_types.specs.declared.request.Edition.{Edition}
+use Rattle.office_types.specs.declared.request.Edition.TheVariants.{One}
+use Rattle.office_types.specs.declared.request.Entry.{Entry}
+use Rattle.office_types.specs.declared.request.Request.{Request}
 use Rattle.desk_settings.specs.declared.settings.Settings.{Settings}
 use Rattle.event_numbers.specs.declared.Count.{Count}
 use Rattle.product_decoder.specs.Decoded.{decode}

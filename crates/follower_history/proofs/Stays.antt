@@ -5,15 +5,15 @@ use Rattle.std.proofs.lemmas.List.Elements.{recursion_from_All}
 use Rattle.hazard_types.specs.Places.{IsPlace}
 use Rattle.hazard_types.specs.declared.codes.Category.{Category}
 use Rattle.hazard_types.specs.declared.line.Line.{Line}
-use Rattle.hazard_types.specs.declared.request.Draft.{Draft}
-use Rattle.hazard_types.specs.declared.request.EventTexts.{EventTexts}
-use Rattle.hazard_types.specs.declared.request.Intent.{Intent}
-use Rattle.hazard_types.specs.declared.request.Intent.TheVariants as intent
-use Rattle.hazard_types.specs.declared.request.Plan.{Plan}
-use Rattle.hazard_types.specs.declared.request.PutPart.{PutPart}
-use Rattle.hazard_types.specs.declared.request.Request.{Request}
-use Rattle.hazard_types.specs.declared.request.Request.TheVariants.{Issue, Begin, Put, Finish, Restate, Routine, Drop, Take, Discard, Send, Correct}
-use Rattle.hazard_types.specs.declared.request.Sent.{Sent}
+use Rattle.office_types.specs.declared.request.Draft.{Draft}
+use Rattle.office_types.specs.declared.request.EventTexts.{EventTexts}
+use Rattle.office_types.specs.declared.request.Intent.{Intent}
+use Rattle.office_types.specs.declared.request.Intent.TheVariants as intent
+use Rattle.office_types.specs.declared.request.Plan.{Plan}
+use Rattle.office_types.specs.declared.request.PutPart.{PutPart}
+use Rattle.office_types.specs.declared.request.Request.{Request}
+use Rattle.office_types.specs.declared.request.Request.TheVariants.{Issue, Begin, Put, Finish, Restate, Routine, Drop, Take, Discard, Send, Correct}
+use Rattle.office_types.specs.declared.request.Sent.{Sent}
 use Rattle.event_life.specs.Products.{rows_after}
 use Rattle.event_life.specs.Reordered.{are_lawful}
 use Rattle.event_numbers.specs.declared.Count.{Count}
@@ -38,7 +38,7 @@ use Rattle.office_core.specs.Making.{Making, IsPlanOf, broken_lines, corrected_b
 use Rattle.office_core.specs.Sound.{IsSound, IsSoundMaking}
 use Rattle.office_core.specs.State.{State, draft_at, is_draft, product_at}
 use Rattle.office_core.specs.Step.{IsMade, drafts_after, rows_with_made, state_after, taken_by, with_draft, with_intent, without_draft, without_intent}
-use Rattle.hazard_types.specs.declared.request.Entry.{Entry}
+use Rattle.office_types.specs.declared.request.Entry.{Entry}
 use Rattle.office_core.specs.declared.made.Made.{Made}
 use Rattle.office_core.proofs.SoundPlans.{can_plan, may_be_written}
 use Rattle.follower_history.proofs.Columns.{codes_back, flood_columns}

@@ -1,5 +1,5 @@
 -- What the derived `==` tells: it holds exactly of identical values.
-use Rattle.std.proofs.Common.{◌≡◌, ◌∙◌, ℕ, List, Bool, true, false, Option, Some, None, refl, ap, sym, rules, nat_eq, ◌==◌, subst, length, take}
+use Rattle.std.proofs.Common.{◌≡◌, ℕ, List, Bool, true, false, Option, Some, None, refl, ap, rules, nat_eq, ◌==◌, subst}
 use Rattle.std.specs.Bool.{Decides, beq}
 use Rattle.std.specs.Option.{option_eq}
 use Rattle.std.specs.Str.{bytes_eq}
@@ -7,8 +7,6 @@ use Rattle.std.specs.Cmp.Lexicographic.{pointwise}
 use Rattle.std.proofs.lemmas.Bool.{and_parts, eqb-true}
 use Rattle.std.proofs.lemmas.Bool.Decides.{Decides-eqb}
 use Rattle.std.proofs.lemmas.Slice.Eq.{bytes_eq-Decides, slice_eq-Decides}
-use Rattle.hazard_types.specs.Desks.{padded}
-use Rattle.hazard_types.proofs.DeskNames.{padded_take}
 use denote.Enum.Bare.{same_true}
 use Rattle.hazard_types.specs.declared.codes.Class.{Class}
 use Rattle.hazard_types.specs.declared.codes.Action.{Action}
@@ -27,13 +25,6 @@ use Rattle.hazard_types.specs.declared.line.Flood.{Flood}
 use Rattle.hazard_types.specs.declared.line.Line.{Line}
 use Rattle.hazard_types.specs.declared.line.SegLine.{SegLine}
 use Rattle.hazard_types.specs.declared.line.Row.{Row}
-use Rattle.hazard_types.specs.declared.request.Texts.{Texts}
-use Rattle.hazard_types.specs.declared.request.EventTexts.{EventTexts}
-use Rattle.hazard_types.specs.declared.request.Target.{Target}
-use Rattle.hazard_types.specs.declared.request.PutPart.{PutPart}
-use Rattle.hazard_types.specs.declared.request.EventPart.{EventPart}
-use Rattle.hazard_types.specs.declared.request.RoutinePart.{RoutinePart}
-use Rattle.hazard_types.specs.declared.request.Request.{Request}
 use Rattle.hazard_types.specs.Places.{Place}
 use Rattle.hazard_types.specs.contracts.codes.ClassPartialEq.TheImpl as class
 use Rattle.hazard_types.specs.contracts.codes.ActionPartialEq.TheImpl as action
@@ -46,7 +37,6 @@ use Rattle.hazard_types.specs.contracts.zone.KindPartialEq.TheImpl as kind
 use Rattle.hazard_types.specs.contracts.codes.CausePartialEq.TheImpl as cause
 use Rattle.hazard_types.specs.contracts.hazard.PhenPartialEq.TheImpl as phen
 use Rattle.hazard_types.specs.contracts.minute.MinutePartialEq.TheImpl as minute
-use Rattle.hazard_types.specs.contracts.desk.DeskPartialEq.TheImpl as desk
 use Rattle.hazard_types.specs.contracts.zone.ZonePartialEq.TheImpl as zone
 use Rattle.hazard_types.specs.contracts.hazard.HazardPartialEq.TheImpl as hazard
 use Rattle.hazard_types.specs.contracts.hazard.EventPartialEq.TheImpl as event
@@ -57,13 +47,6 @@ use Rattle.hazard_types.specs.contracts.line.FloodPartialEq.TheImpl as flood
 use Rattle.hazard_types.specs.contracts.line.LinePartialEq.TheImpl as line
 use Rattle.hazard_types.specs.contracts.line.SegLinePartialEq.TheImpl as seg_line
 use Rattle.hazard_types.specs.contracts.line.RowPartialEq.TheImpl as row
-use Rattle.hazard_types.specs.contracts.request.TextsPartialEq.TheImpl as texts
-use Rattle.hazard_types.specs.contracts.request.EventTextsPartialEq.TheImpl as event_texts
-use Rattle.hazard_types.specs.contracts.request.TargetPartialEq.TheImpl as target
-use Rattle.hazard_types.specs.contracts.request.PutPartPartialEq.TheImpl as put_part
-use Rattle.hazard_types.specs.contracts.request.EventPartPartialEq.TheImpl as event_part
-use Rattle.hazard_types.specs.contracts.request.RoutinePartPartialEq.TheImpl as routine_part
-use Rattle.hazard_types.specs.contracts.request.RequestPartialEq.TheImpl as request
 use Rattle.hazard_types.specs.contracts.codes.ClassEq.TheImpl.Laws as class_laws
 use Rattle.hazard_types.specs.contracts.codes.ActionEq.TheImpl.Laws as action_laws
 use Rattle.hazard_types.specs.contracts.codes.SeverityEq.TheImpl.Laws as severity_laws
@@ -73,7 +56,6 @@ use Rattle.hazard_types.specs.contracts.codes.FamilyEq.TheImpl.Laws as family_la
 use Rattle.hazard_types.specs.contracts.hazard.SigEq.TheImpl.Laws as sig_laws
 use Rattle.hazard_types.specs.contracts.zone.KindEq.TheImpl.Laws as kind_laws
 use Rattle.hazard_types.specs.contracts.codes.CauseEq.TheImpl.Laws as cause_laws
-use Rattle.hazard_types.specs.contracts.desk.DeskEq.TheImpl.Laws as desk_laws
 use Rattle.hazard_types.specs.contracts.zone.ZoneEq.TheImpl.Laws as zone_laws
 use Rattle.hazard_types.specs.contracts.hazard.HazardEq.TheImpl.Laws as hazard_laws
 use Rattle.hazard_types.specs.contracts.hazard.EventEq.TheImpl.Laws as event_laws
@@ -82,8 +64,6 @@ use Rattle.hazard_types.specs.contracts.line.FloodEq.TheImpl.Laws as flood_laws
 use Rattle.hazard_types.specs.contracts.line.LineEq.TheImpl.Laws as line_laws
 use Rattle.hazard_types.specs.contracts.line.SegLineEq.TheImpl.Laws as seg_line_laws
 use Rattle.hazard_types.specs.contracts.line.RowEq.TheImpl.Laws as row_laws
-use Rattle.hazard_types.specs.contracts.request.EventTextsEq.TheImpl.Laws as event_texts_laws
-use Rattle.hazard_types.specs.contracts.request.RequestEq.TheImpl.Laws as request_laws
 use Rattle.hazard_types.specs.contracts.codes.Class as class_type
 use Rattle.hazard_types.specs.contracts.codes.Action as action_type
 use Rattle.hazard_types.specs.contracts.codes.Severity as severity_type
@@ -94,20 +74,18 @@ use Rattle.hazard_types.specs.contracts.hazard.Sig as sig_type
 use Rattle.hazard_types.specs.contracts.zone.Kind as kind_type
 use Rattle.hazard_types.specs.declared.period.End.TheVariants as end_is
 use Rattle.hazard_types.specs.declared.period.Begin.TheVariants as begin_is
-use Rattle.hazard_types.specs.declared.request.Target.TheVariants as target_is
-use Rattle.hazard_types.specs.declared.request.Request.TheVariants as request_is
 
 -- what is equal to itself and equal to nothing else
-decided : {X : Type 0} (same : X → X → Bool) → ((x : X) → same x x ≡ true) → ((x y : X) → same x y ≡ true → x ≡ y) → (x y : X) → Decides (same x y) (x ≡ y)
+pub decided : {X : Type 0} (same : X → X → Bool) → ((x : X) → same x x ≡ true) → ((x y : X) → same x y ≡ true → x ≡ y) → (x y : X) → Decides (same x y) (x ≡ y)
 decided same itself one x y = (one x y, λ e. subst (λ z. same x z ≡ true) e (itself x))
 
-number_one : (m n : ℕ) → (m == n) ≡ true → m ≡ n
+pub number_one : (m n : ℕ) → (m == n) ≡ true → m ≡ n
 number_one m n h = eqb-true m n h
 
-nat_decides : (m n : ℕ) → Decides (nat_eq m n) (m ≡ n)
+pub nat_decides : (m n : ℕ) → Decides (nat_eq m n) (m ≡ n)
 nat_decides m n = Decides-eqb m n
 
-bytes_one : (xs ys : List ℕ) → bytes_eq xs ys ≡ true → xs ≡ ys
+pub bytes_one : (xs ys : List ℕ) → bytes_eq xs ys ≡ true → xs ≡ ys
 bytes_one xs ys h = (bytes_eq-Decides xs ys).0 h
 
 bool_one : (a b : Bool) → beq a b ≡ true → a ≡ b
@@ -115,12 +93,12 @@ bool_one true true h = refl
 bool_one false false h = refl
 bool_one _ _ h = cc
 
-option_one : {A : Type 0} (same : A → A → Bool) → ((x y : A) → same x y ≡ true → x ≡ y) → (a b : Option A) → option_eq same a b ≡ true → a ≡ b
+pub option_one : {A : Type 0} (same : A → A → Bool) → ((x y : A) → same x y ≡ true → x ≡ y) → (a b : Option A) → option_eq same a b ≡ true → a ≡ b
 option_one same one None None h = refl
 option_one same one (Some x) (Some y) h = ap Some (one x y h)
 option_one same one _ _ h = cc
 
-list_one : {A : Type 0} (same : A → A → Bool) → ((x y : A) → Decides (same x y) (x ≡ y)) → (xs ys : List A) → pointwise same xs ys ≡ true → xs ≡ ys
+pub list_one : {A : Type 0} (same : A → A → Bool) → ((x y : A) → Decides (same x y) (x ≡ y)) → (xs ys : List A) → pointwise same xs ys ≡ true → xs ≡ ys
 list_one same decides xs ys h = (slice_eq-Decides decides xs ys _ refl).0 h
 
 pub class_one : (a b : Class) → class.eq-value.it a b ≡ true → a ≡ b
@@ -188,20 +166,6 @@ phen_one a b h = bytes_one a b h
 
 pub minute_one : (a b : ℕ) → minute.eq-value.it a b ≡ true → a ≡ b
 minute_one a b h = number_one a b h
-
-pub desk_one : (a b : List ℕ) → desk.eq-value.it a b ≡ true → a ≡ b
-desk_one a b h =
-    let p = and_parts (bytes_eq (padded a) (padded b)) _ h in
-    let bytes_is : padded a ≡ padded b = bytes_one _ _ p.0 in
-    let size_is : length a ≡ length b = number_one _ _ p.1 in
-    let front : take (length a) (padded a) ≡ take (length b) (padded b) = λ i. take (size_is i) (bytes_is i) in
-    sym (padded_take a) ∙ front ∙ padded_take b
-
-pub desk_itself : (a : List ℕ) → desk.eq-value.it a a ≡ true
-desk_itself = desk_laws.laws-law.refl
-
-pub desk_decides : (a b : List ℕ) → Decides (desk.eq-value.it a b) (a ≡ b)
-desk_decides = decided desk.eq-value.it desk_itself desk_one
 
 pub zone_one : (a b : Place) → zone.eq-value.it a b ≡ true → a ≡ b
 zone_one a b h =
@@ -350,109 +314,3 @@ row_itself = row_laws.laws-law.refl
 
 pub row_decides : (a b : Row) → Decides (row.eq-value.it a b) (a ≡ b)
 row_decides = decided row.eq-value.it row_itself row_one
-
-pub texts_one : (a b : Texts) → texts.eq-value.it a b ≡ true → a ≡ b
-texts_one a b h =
-    let p0 = and_parts ((pointwise nat_eq) a.what b.what) _ h in
-    let p1 = and_parts ((pointwise nat_eq) a.area b.area) _ p0.1 in
-    let p2 = and_parts ((pointwise nat_eq) a.impacts b.impacts) _ p1.1 in
-    let what_is = (list_one nat_eq nat_decides) a.what b.what p0.0 in
-    let area_is = (list_one nat_eq nat_decides) a.area b.area p1.0 in
-    let impacts_is = (list_one nat_eq nat_decides) a.impacts b.impacts p2.0 in
-    let details_is = (list_one nat_eq nat_decides) a.details b.details p2.1 in
-    λ i. record { what = what_is i; area = area_is i; impacts = impacts_is i; details = details_is i }
-
-pub event_texts_one : (a b : EventTexts) → event_texts.eq-value.it a b ≡ true → a ≡ b
-event_texts_one a b h =
-    let p0 = and_parts (event.eq-value.it a.event b.event) _ h in
-    let event_is = event_one a.event b.event p0.0 in
-    let texts_is = texts_one a.texts b.texts p0.1 in
-    λ i. record { event = event_is i; texts = texts_is i }
-
-pub event_texts_itself : (a : EventTexts) → event_texts.eq-value.it a a ≡ true
-event_texts_itself = event_texts_laws.laws-law.refl
-
-pub event_texts_decides : (a b : EventTexts) → Decides (event_texts.eq-value.it a b) (a ≡ b)
-event_texts_decides = decided event_texts.eq-value.it event_texts_itself event_texts_one
-
-pub target_one : (a b : Target) → target.eq-value.it a b ≡ true → a ≡ b
-target_one (target_is.Fresh x) (target_is.Fresh y) h = ap (λ z. target_is.Fresh z) (hazard_one x y h)
-target_one (target_is.Join x) (target_is.Join y) h = ap (λ z. target_is.Join z) (event_one x y h)
-target_one _ _ h = cc
-
-pub put_part_one : (a b : PutPart) → put_part.eq-value.it a b ≡ true → a ≡ b
-put_part_one a b h =
-    let p0 = and_parts (target.eq-value.it a.target b.target) _ h in
-    let p1 = and_parts ((pointwise zone.eq-value.it) a.zones b.zones) _ p0.1 in
-    let p2 = and_parts (begin.eq-value.it a.begin b.begin) _ p1.1 in
-    let p3 = and_parts (end.eq-value.it a.end b.end) _ p2.1 in
-    let p4 = and_parts ((option_eq flood.eq-value.it) a.flood b.flood) _ p3.1 in
-    let target_is = target_one a.target b.target p0.0 in
-    let zones_is = (list_one zone.eq-value.it zone_decides) a.zones b.zones p1.0 in
-    let begin_is = begin_one a.begin b.begin p2.0 in
-    let end_is = end_one a.end b.end p3.0 in
-    let flood_is = (option_one flood.eq-value.it flood_one) a.flood b.flood p4.0 in
-    let texts_is = texts_one a.texts b.texts p4.1 in
-    λ i. record { target = target_is i; zones = zones_is i; begin = begin_is i; end = end_is i; flood = flood_is i; texts = texts_is i }
-
-pub event_part_one : (a b : EventPart) → event_part.eq-value.it a b ≡ true → a ≡ b
-event_part_one a b h =
-    let p0 = and_parts (event.eq-value.it a.event b.event) _ h in
-    let p1 = and_parts ((pointwise zone.eq-value.it) a.zones b.zones) _ p0.1 in
-    let event_is = event_one a.event b.event p0.0 in
-    let zones_is = (list_one zone.eq-value.it zone_decides) a.zones b.zones p1.0 in
-    let texts_is = texts_one a.texts b.texts p1.1 in
-    λ i. record { event = event_is i; zones = zones_is i; texts = texts_is i }
-
-pub routine_part_one : (a b : RoutinePart) → routine_part.eq-value.it a b ≡ true → a ≡ b
-routine_part_one a b h =
-    let p0 = and_parts (hazard.eq-value.it a.hazard b.hazard) _ h in
-    let p1 = and_parts ((pointwise zone.eq-value.it) a.zones b.zones) _ p0.1 in
-    let hazard_is = hazard_one a.hazard b.hazard p0.0 in
-    let zones_is = (list_one zone.eq-value.it zone_decides) a.zones b.zones p1.0 in
-    let texts_is = texts_one a.texts b.texts p1.1 in
-    λ i. record { hazard = hazard_is i; zones = zones_is i; texts = texts_is i }
-
-pub request_one : (a b : Request) → request.eq-value.it a b ≡ true → a ≡ b
-request_one (request_is.Issue x) (request_is.Issue y) h = ap (λ z. request_is.Issue z) (put_part_one x y h)
-request_one (request_is.Begin x) (request_is.Begin y) h = ap (λ z. request_is.Begin z) (category_one x y h)
-request_one (request_is.Put x p) (request_is.Put y q) h =
-    let both = and_parts (nat_eq x y) _ h in
-    let first = number_one x y both.0 in
-    let second = put_part_one p q both.1 in
-    λ i. request_is.Put (first i) (second i)
-request_one (request_is.Finish x p) (request_is.Finish y q) h =
-    let both = and_parts (nat_eq x y) _ h in
-    let first = number_one x y both.0 in
-    let second = event_part_one p q both.1 in
-    λ i. request_is.Finish (first i) (second i)
-request_one (request_is.Restate x p) (request_is.Restate y q) h =
-    let both = and_parts (nat_eq x y) _ h in
-    let first = number_one x y both.0 in
-    let second = event_part_one p q both.1 in
-    λ i. request_is.Restate (first i) (second i)
-request_one (request_is.Routine x p) (request_is.Routine y q) h =
-    let both = and_parts (nat_eq x y) _ h in
-    let first = number_one x y both.0 in
-    let second = routine_part_one p q both.1 in
-    λ i. request_is.Routine (first i) (second i)
-request_one (request_is.Drop x p) (request_is.Drop y q) h =
-    let both = and_parts (nat_eq x y) _ h in
-    let first = number_one x y both.0 in
-    let second = number_one p q both.1 in
-    λ i. request_is.Drop (first i) (second i)
-request_one (request_is.Take x) (request_is.Take y) h = ap (λ z. request_is.Take z) (number_one x y h)
-request_one (request_is.Discard x) (request_is.Discard y) h = ap (λ z. request_is.Discard z) (number_one x y h)
-request_one (request_is.Send x) (request_is.Send y) h = ap (λ z. request_is.Send z) (number_one x y h)
-request_one (request_is.Correct x p) (request_is.Correct y q) h =
-    let both = and_parts (nat_eq x y) _ h in
-    let first = number_one x y both.0 in
-    let second = (list_one event_texts.eq-value.it event_texts_decides) p q both.1 in
-    λ i. request_is.Correct (first i) (second i)
-request_one _ _ h = cc
-
-pub request_itself : (a : Request) → request.eq-value.it a a ≡ true
-request_itself = request_laws.laws-law.refl
-
-pub request_decides : (a b : Request) → Decides (request.eq-value.it a b) (a ≡ b)
-request_decides = decided request.eq-value.it request_itself request_one

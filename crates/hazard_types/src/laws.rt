@@ -14,16 +14,14 @@ ghost use Rattle.hazard_types.specs.Orders.{by_hazard, by_event, by_end};
 ghost use Rattle.hazard_types.specs.Places.{Place, IsPlace, are_letters, by_place};
 
 use crate::codes::{Action, Category, Cause, Class, Severity, Status};
-use crate::desk::Desk;
 use crate::hazard::{Event, Hazard, Sig};
 use crate::line::{Flood, Line, Row, SegLine};
 use crate::period::End;
-use crate::request::Request;
 use crate::zone::Zone;
 
 /// `==` of zones, hazards, events, H-VTEC values, lines, rows, desks and requests holds exactly of
 /// identical values.
-#[tactic(auto, using(crate::proofs::Equality::zone_decides, crate::proofs::Equality::hazard_decides, crate::proofs::Equality::event_decides, crate::proofs::Equality::flood_decides, crate::proofs::Equality::line_decides, crate::proofs::Equality::seg_line_decides, crate::proofs::Equality::row_decides, crate::proofs::Equality::desk_decides, crate::proofs::Equality::request_decides))]
+#[tactic(auto, using(crate::proofs::Equality::zone_decides, crate::proofs::Equality::hazard_decides, crate::proofs::Equality::event_decides, crate::proofs::Equality::flood_decides, crate::proofs::Equality::line_decides, crate::proofs::Equality::seg_line_decides, crate::proofs::Equality::row_decides))]
 pub fn equality_is_identity()
     ensures zones { (a b : Place) → Decides (⟦<Zone as PartialEq>⟧.eq a b) (a ≡ b) }
     ensures hazards { (a b : Hazard) → Decides (⟦<Hazard as PartialEq>⟧.eq a b) (a ≡ b) }
@@ -32,8 +30,6 @@ pub fn equality_is_identity()
     ensures lines { (a b : Line) → Decides (⟦<Line as PartialEq>⟧.eq a b) (a ≡ b) }
     ensures segment_lines { (a b : SegLine) → Decides (⟦<SegLine as PartialEq>⟧.eq a b) (a ≡ b) }
     ensures rows { (a b : Row) → Decides (⟦<Row as PartialEq>⟧.eq a b) (a ≡ b) }
-    ensures desks { (a b : List ℕ) → Decides (⟦<Desk as PartialEq>⟧.eq a b) (a ≡ b) }
-    ensures requests { (a b : Request) → Decides (⟦<Request as PartialEq>⟧.eq a b) (a ≡ b) }
 {}
 
 /// Zones, hazards, events and ends are totally ordered, and those that compare equal are identical.

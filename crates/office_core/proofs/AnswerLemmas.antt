@@ -5,10 +5,10 @@ use Rattle.hazard_types.proofs.Equality.{request_itself}
 use Rattle.hazard_types.specs.declared.codes.Category.{Category}
 use Rattle.hazard_types.specs.declared.line.Line.{Line}
 use Rattle.hazard_types.specs.declared.line.Segment.{Segment}
-use Rattle.hazard_types.specs.declared.refusal.Refusal.{Refusal}
-use Rattle.hazard_types.specs.declared.request.Plan.{Plan}
-use Rattle.hazard_types.specs.declared.request.Reply.{Reply}
-use Rattle.hazard_types.specs.declared.request.Request.{Request}
+use Rattle.office_types.specs.declared.refusal.Refusal.{Refusal}
+use Rattle.office_types.specs.declared.request.Plan.{Plan}
+use Rattle.office_types.specs.declared.request.Reply.{Reply}
+use Rattle.office_types.specs.declared.request.Request.{Request}
 use Rattle.segmenter.proofs.LawLemmas.{segments_alike}
 use Rattle.office_core.specs.Making.{Making, IsPlanOf, broken_lines, broken_product, made_of, making_of}
 use Rattle.office_core.specs.Rules.{broken_request, is_kept, is_repeated, minute_of, unknown_desk}

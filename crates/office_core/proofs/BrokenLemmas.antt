@@ -3,11 +3,11 @@ use Rattle.std.proofs.Common.{◌≡◌, ◌==◌, ℕ, ℤ, pos, Bool, true, fa
 use Rattle.std.specs.Option.{option_or}
 use Rattle.std.specs.Bool.{Decides}
 use Rattle.std.proofs.lemmas.Bool.{and_parts, eqb-true, false≢true}
-use Rattle.hazard_types.specs.declared.refusal.Refusal.{Refusal}
-use Rattle.hazard_types.specs.declared.refusal.Refusal.TheVariants as refusal
-use Rattle.hazard_types.specs.declared.request.Draft.{Draft}
-use Rattle.hazard_types.specs.declared.request.Reply.{Reply}
-use Rattle.hazard_types.specs.declared.request.Request.{Request}
+use Rattle.office_types.specs.declared.refusal.Refusal.{Refusal}
+use Rattle.office_types.specs.declared.refusal.Refusal.TheVariants as refusal
+use Rattle.office_types.specs.declared.request.Draft.{Draft}
+use Rattle.office_types.specs.declared.request.Reply.{Reply}
+use Rattle.office_types.specs.declared.request.Request.{Request}
 use Rattle.action_planner.specs.Offences.{first_given}
 use Rattle.office_core.specs.Requests.{draft_of, intent_of, same_request}
 use Rattle.office_core.specs.Rules.{broken_draft, broken_number, broken_part, broken_request, clock_out, drafts_full, first_of_two, found_draft, gap, intents_full, is_kept, is_out, is_repeated, minute_of, no_draft, no_intent, not_owner, reused, stale, still_active, unknown_desk}

@@ -2,7 +2,7 @@
 use Rattle.std.proofs.Common.{◌≡◌, ◌∙◌, ◌<◌, ◌≤◌, ◌+◌, ℕ, zero, suc, Bool, true, false, cond, not, if◌then◌else◌, List, [], ◌∷◌, ◌++◌, length, take, drop, set, get_or, Some, None, refl, ap, arith}
 use Rattle.std.specs.List.{position, position_or_len}
 use Rattle.std.proofs.lemmas.List.Quantifiers.{position-Some}
-use Rattle.hazard_types.specs.declared.request.Draft.{Draft}
+use Rattle.office_types.specs.declared.request.Draft.{Draft}
 use Rattle.office_core.specs.State.{is_draft}
 use Rattle.office_core.specs.Step.{with_draft, without_draft}
 use Rattle.office_core.proofs.UpdateLemmas.{lacking, none_is_some, updated, updated_at, updated_none}

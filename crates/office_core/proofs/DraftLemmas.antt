@@ -2,7 +2,7 @@
 use Rattle.std.proofs.Common.{◌≡◌, ◌≤◌, ℕ, List, Option, Some, None, option_map, Bor, arith, sym}
 use Rattle.std.proofs.lemmas.List.Elements.{recursion_from_All}
 use Rattle.std.specs.Option.{IfSome}
-use Rattle.hazard_types.specs.declared.request.Draft.{Draft}
+use Rattle.office_types.specs.declared.request.Draft.{Draft}
 use Rattle.event_numbers.specs.declared.Count.{Count}
 use Rattle.action_planner.proofs.LawfulLists.{all_has}
 use Rattle.office_core.specs.Sound.{IsSound}

@@ -1,7 +1,7 @@
 -- A draft that is found is sound.
 use Rattle.std.proofs.Common.{◌≡◌, Option, Some, None, option_map, Bor, subst, sym}
 use Rattle.std.specs.Option.{IfSome}
-use Rattle.hazard_types.specs.declared.request.Draft.{Draft}
+use Rattle.office_types.specs.declared.request.Draft.{Draft}
 use Rattle.office_core.specs.Making.{drafted_by}
 use Rattle.office_core.specs.Sound.{IsSoundMaking}
 use Rattle.office_core.specs.State.{State}

@@ -2,11 +2,11 @@
 use Rattle.std.proofs.Common.{◌≡◌, ◌∙◌, ◌≤◌, ◌+◌, ℕ, List, [], ◌∷◌, ◌++◌, count_by, Option, Some, None, Result, Ok, Err, IfOk, OnOk, IsTrue, ap, refl, subst, sym, rules}
 use Rattle.hazard_types.specs.declared.codes.Category.{Category}
 use Rattle.hazard_types.specs.declared.hazard.Event.{Event}
-use Rattle.hazard_types.specs.declared.refusal.Refusal.{Refusal}
-use Rattle.hazard_types.specs.declared.request.EventTexts.{EventTexts}
-use Rattle.hazard_types.specs.declared.request.Intent.{Intent}
-use Rattle.hazard_types.specs.declared.request.Plan.{Plan}
-use Rattle.hazard_types.specs.declared.request.Sent.{Sent}
+use Rattle.office_types.specs.declared.refusal.Refusal.{Refusal}
+use Rattle.office_types.specs.declared.request.EventTexts.{EventTexts}
+use Rattle.office_types.specs.declared.request.Intent.{Intent}
+use Rattle.office_types.specs.declared.request.Plan.{Plan}
+use Rattle.office_types.specs.declared.request.Sent.{Sent}
 use Rattle.event_life.specs.Openings.{is_numbered}
 use Rattle.event_life.specs.Reordered.{are_lawful}
 use Rattle.event_numbers.specs.declared.Count.{Count}

@@ -5,11 +5,11 @@ use Rattle.std.proofs.lemmas.Slice.Eq.{bytes_eq-Decides}
 use Rattle.std.specs.List.{list_any, AllByRecursion}
 use Rattle.std.specs.Str.{bytes_eq}
 use Rattle.hazard_types.specs.declared.codes.Class.{Class}
-use Rattle.hazard_types.specs.declared.refusal.Refusal.{Refusal}
-use Rattle.hazard_types.specs.declared.refusal.Refusal.TheVariants as refusal
-use Rattle.hazard_types.specs.declared.request.Edition.TheVariants.{One}
-use Rattle.hazard_types.specs.declared.request.Entry.{Entry}
-use Rattle.hazard_types.specs.declared.request.Request.{Request}
+use Rattle.office_types.specs.declared.refusal.Refusal.{Refusal}
+use Rattle.office_types.specs.declared.refusal.Refusal.TheVariants as refusal
+use Rattle.office_types.specs.declared.request.Edition.TheVariants.{One}
+use Rattle.office_types.specs.declared.request.Entry.{Entry}
+use Rattle.office_types.specs.declared.request.Request.{Request}
 use Rattle.desk_settings.specs.declared.settings.Settings.{Settings}
 use Rattle.event_life.specs.Openings.{counted_from}
 use Rattle.action_planner.specs.Offences.{first_given}

@@ -2,9 +2,9 @@
 use Rattle.std.proofs.Common.{◌≡◌, ◌∙◌, ◌≤◌, ℕ, ℤ, pos, negsuc, Bool, true, false, List, [], ◌∷◌, Option, Some, None, if◌then◌else◌, int_lt, max, nat_abs, refl, sym, ap, arith}
 use Rattle.std.proofs.lemmas.Bool.{ltb-false, or_parts}
 use Rattle.std.proofs.lemmas.Bool.Decides.{nat_tests}
-use Rattle.hazard_types.specs.declared.refusal.Refusal.{Refusal}
-use Rattle.hazard_types.specs.declared.refusal.Refusal.TheVariants as refusal
-use Rattle.hazard_types.specs.declared.request.Request.{Request}
+use Rattle.office_types.specs.declared.refusal.Refusal.{Refusal}
+use Rattle.office_types.specs.declared.refusal.Refusal.TheVariants as refusal
+use Rattle.office_types.specs.declared.request.Request.{Request}
 use Rattle.action_planner.specs.Offences.{first_given}
 use Rattle.office_core.specs.Requests.{draft_of}
 use Rattle.office_core.specs.Rules.{broken_draft, broken_number, broken_part, broken_request, clock_out, first_of_two, found_draft, gap, is_out, is_repeated, minute_of, reused, stale, unknown_desk}

@@ -1,7 +1,7 @@
 -- What was made and prepared is an accepted request's, and may be committed.
 use Rattle.std.proofs.Common.{◌≡◌, ◌≤◌, ℕ, ℤ, List, Option, Some, None, false, refl, subst, sym}
-use Rattle.hazard_types.specs.declared.request.Entry.{Entry}
-use Rattle.hazard_types.specs.declared.request.Request.{Request}
+use Rattle.office_types.specs.declared.request.Entry.{Entry}
+use Rattle.office_types.specs.declared.request.Request.{Request}
 use Rattle.event_numbers.specs.declared.Count.{Count}
 use Rattle.request_json.specs.Formed.{HasRequestForm}
 use Rattle.office_core.specs.Agreement.{Agrees}

@@ -10,18 +10,18 @@ use Rattle.hazard_types.specs.Places.{Place}
 use Rattle.hazard_types.specs.declared.codes.Category.{Category}
 use Rattle.hazard_types.specs.declared.facts.Facts.{Facts}
 use Rattle.hazard_types.specs.declared.line.Flood.{Flood}
-use Rattle.hazard_types.specs.declared.refusal.Refusal.{Refusal}
-use Rattle.hazard_types.specs.declared.refusal.Refusal.TheVariants as refusal
-use Rattle.hazard_types.specs.declared.request.Draft.{Draft}
-use Rattle.hazard_types.specs.declared.request.EventTexts.{EventTexts}
-use Rattle.hazard_types.specs.declared.request.Intent.{Intent}
-use Rattle.hazard_types.specs.declared.request.Intent.TheVariants as intent
-use Rattle.hazard_types.specs.declared.request.Request.{Request}
-use Rattle.hazard_types.specs.declared.request.Request.TheVariants.{Issue, Begin, Put, Finish, Restate, Routine, Drop, Take, Discard, Send, Correct}
-use Rattle.hazard_types.specs.declared.request.Sent.{Sent}
-use Rattle.hazard_types.specs.declared.request.Target.{Target}
-use Rattle.hazard_types.specs.declared.request.Target.TheVariants.{Fresh, Join}
-use Rattle.hazard_types.specs.declared.request.Texts.{Texts}
+use Rattle.office_types.specs.declared.refusal.Refusal.{Refusal}
+use Rattle.office_types.specs.declared.refusal.Refusal.TheVariants as refusal
+use Rattle.office_types.specs.declared.request.Draft.{Draft}
+use Rattle.office_types.specs.declared.request.EventTexts.{EventTexts}
+use Rattle.office_types.specs.declared.request.Intent.{Intent}
+use Rattle.office_types.specs.declared.request.Intent.TheVariants as intent
+use Rattle.office_types.specs.declared.request.Request.{Request}
+use Rattle.office_types.specs.declared.request.Request.TheVariants.{Issue, Begin, Put, Finish, Restate, Routine, Drop, Take, Discard, Send, Correct}
+use Rattle.office_types.specs.declared.request.Sent.{Sent}
+use Rattle.office_types.specs.declared.request.Target.{Target}
+use Rattle.office_types.specs.declared.request.Target.TheVariants.{Fresh, Join}
+use Rattle.office_types.specs.declared.request.Texts.{Texts}
 use Rattle.hazard_types.proofs.Equality.{category_itself}
 use Rattle.desk_settings.specs.Looking.{name_beside}
 use Rattle.event_numbers.specs.declared.Count.{Count}

@@ -15,16 +15,16 @@ use Rattle.hazard_types.specs.declared.hazard.Hazard.{Hazard}
 use Rattle.hazard_types.specs.declared.line.Flood.{Flood}
 use Rattle.hazard_types.specs.declared.line.Line.{Line}
 use Rattle.hazard_types.specs.declared.line.Row.{Row}
-use Rattle.hazard_types.specs.declared.refusal.Refusal.{Refusal}
-use Rattle.hazard_types.specs.declared.refusal.Refusal.TheVariants as refusal
-use Rattle.hazard_types.specs.declared.request.Draft.{Draft}
-use Rattle.hazard_types.specs.declared.request.EventTexts.{EventTexts}
-use Rattle.hazard_types.specs.declared.request.Intent.{Intent}
-use Rattle.hazard_types.specs.declared.request.Intent.TheVariants as intent
-use Rattle.hazard_types.specs.declared.request.Plan.{Plan}
-use Rattle.hazard_types.specs.declared.request.Request.{Request}
-use Rattle.hazard_types.specs.declared.request.Request.TheVariants.{Issue, Begin, Put, Finish, Restate, Routine, Drop, Take, Discard, Send, Correct}
-use Rattle.hazard_types.specs.declared.request.Sent.{Sent}
+use Rattle.office_types.specs.declared.refusal.Refusal.{Refusal}
+use Rattle.office_types.specs.declared.refusal.Refusal.TheVariants as refusal
+use Rattle.office_types.specs.declared.request.Draft.{Draft}
+use Rattle.office_types.specs.declared.request.EventTexts.{EventTexts}
+use Rattle.office_types.specs.declared.request.Intent.{Intent}
+use Rattle.office_types.specs.declared.request.Intent.TheVariants as intent
+use Rattle.office_types.specs.declared.request.Plan.{Plan}
+use Rattle.office_types.specs.declared.request.Request.{Request}
+use Rattle.office_types.specs.declared.request.Request.TheVariants.{Issue, Begin, Put, Finish, Restate, Routine, Drop, Take, Discard, Send, Correct}
+use Rattle.office_types.specs.declared.request.Sent.{Sent}
 use Rattle.desk_settings.specs.declared.settings.Settings.{Settings}
 use Rattle.event_life.specs.declared.life.Life.{Life}
 use Rattle.event_life.specs.Products.{by_key, life_of, row_after, row_at, rows_after}

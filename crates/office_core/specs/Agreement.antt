@@ -5,7 +5,7 @@ use Rattle.hazard_types.specs.Places.{Place}
 use Rattle.hazard_types.specs.declared.codes.Class.{Class}
 use Rattle.hazard_types.specs.declared.hazard.Event.{Event}
 use Rattle.hazard_types.specs.declared.hazard.Hazard.{Hazard}
-use Rattle.hazard_types.specs.declared.request.Sent.{Sent}
+use Rattle.office_types.specs.declared.request.Sent.{Sent}
 use Rattle.event_life.specs.Lives.{IsLawfulLife}
 use Rattle.event_life.specs.Openings.{IsGapless, counted_from, numbers_of, opened_of}
 use Rattle.event_life.specs.Products.{Product, rows_of}

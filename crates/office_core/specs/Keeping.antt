@@ -1,6 +1,6 @@
 -- What is asked of a product that is made, so that all stays sound and the texts agree with the board.
 use Rattle.std.specs.Prelude.{◌≡◌, ℕ, List, Option, None, Some, ⊤}
-use Rattle.hazard_types.specs.declared.request.Plan.{Plan}
+use Rattle.office_types.specs.declared.request.Plan.{Plan}
 use Rattle.event_numbers.specs.declared.Count.{Count}
 use Rattle.action_planner.specs.Conditions.{CanPlan}
 use Rattle.action_planner.specs.Corrections.{CanCorrect}

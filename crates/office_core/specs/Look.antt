@@ -1,12 +1,12 @@
 -- What is looked at, and why a look is refused.
 use Rattle.std.specs.Prelude.{◌≡◌, ◌⊎◌, ◌+◌, ℕ, ℤ, nat_abs, true, false, List, Option, None, Some}
-use Rattle.hazard_types.specs.declared.refusal.Refusal.{Refusal}
-use Rattle.hazard_types.specs.declared.refusal.Refusal.TheVariants as refusal
-use Rattle.hazard_types.specs.declared.request.Draft.{Draft as SomeDraft}
-use Rattle.hazard_types.specs.declared.request.Plan.{Plan}
-use Rattle.hazard_types.specs.declared.request.Query.{Query}
-use Rattle.hazard_types.specs.declared.request.Query.TheVariants.{Board, Product, After, Draft, Preview}
-use Rattle.hazard_types.specs.declared.request.Sent.{Sent}
+use Rattle.office_types.specs.declared.refusal.Refusal.{Refusal}
+use Rattle.office_types.specs.declared.refusal.Refusal.TheVariants as refusal
+use Rattle.office_types.specs.declared.request.Draft.{Draft as SomeDraft}
+use Rattle.office_types.specs.declared.request.Plan.{Plan}
+use Rattle.office_types.specs.declared.request.Query.{Query}
+use Rattle.office_types.specs.declared.request.Query.TheVariants.{Board, Product, After, Draft, Preview}
+use Rattle.office_types.specs.declared.request.Sent.{Sent}
 use Rattle.board_text.specs.Rows.{board_text}
 use Rattle.event_life.specs.Shown.{shown_at}
 use Rattle.product_template.specs.Text.{text_of}

@@ -5,15 +5,15 @@ use Rattle.std.specs.Str.{bytes_eq}
 use Rattle.hazard_types.specs.Hazards.{facts_of}
 use Rattle.hazard_types.specs.Places.{Place}
 use Rattle.hazard_types.specs.declared.codes.Category.{Category}
-use Rattle.hazard_types.specs.declared.refusal.Refusal.{Refusal}
-use Rattle.hazard_types.specs.declared.refusal.Refusal.TheVariants as refusal
-use Rattle.hazard_types.specs.declared.request.Draft.{Draft}
-use Rattle.hazard_types.specs.declared.request.Intent.{Intent}
-use Rattle.hazard_types.specs.declared.request.Intent.TheVariants as intent
-use Rattle.hazard_types.specs.declared.request.Request.{Request}
-use Rattle.hazard_types.specs.declared.request.Request.TheVariants.{Begin, Put, Drop, Correct}
-use Rattle.hazard_types.specs.declared.request.Target.{Target}
-use Rattle.hazard_types.specs.declared.request.Target.TheVariants.{Fresh, Join}
+use Rattle.office_types.specs.declared.refusal.Refusal.{Refusal}
+use Rattle.office_types.specs.declared.refusal.Refusal.TheVariants as refusal
+use Rattle.office_types.specs.declared.request.Draft.{Draft}
+use Rattle.office_types.specs.declared.request.Intent.{Intent}
+use Rattle.office_types.specs.declared.request.Intent.TheVariants as intent
+use Rattle.office_types.specs.declared.request.Request.{Request}
+use Rattle.office_types.specs.declared.request.Request.TheVariants.{Begin, Put, Drop, Correct}
+use Rattle.office_types.specs.declared.request.Target.{Target}
+use Rattle.office_types.specs.declared.request.Target.TheVariants.{Fresh, Join}
 use Rattle.desk_settings.specs.Looking.{name_beside}
 use Rattle.desk_settings.specs.declared.settings.Settings.{Settings}
 use Rattle.action_planner.specs.Fitting.{of_other_kind, opens_with, are_zones}

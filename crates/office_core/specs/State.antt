@@ -3,9 +3,9 @@ use Rattle.std.specs.Prelude.{◌==◌, ℕ, zero, suc, Bool, List, slice_get, [
 use Rattle.std.specs.Str.{bytes_eq}
 use Rattle.hazard_types.specs.declared.codes.Class.{Class}
 use Rattle.hazard_types.specs.declared.line.Row.{Row}
-use Rattle.hazard_types.specs.declared.request.Draft.{Draft}
-use Rattle.hazard_types.specs.declared.request.Edition.{Edition}
-use Rattle.hazard_types.specs.declared.request.Sent.{Sent}
+use Rattle.office_types.specs.declared.request.Draft.{Draft}
+use Rattle.office_types.specs.declared.request.Edition.{Edition}
+use Rattle.office_types.specs.declared.request.Sent.{Sent}
 use Rattle.desk_settings.specs.declared.settings.Settings.{Settings}
 use Rattle.office_core.specs.declared.heard.Heard.{Heard}
 use Rattle.office_core.specs.declared.heard.Said.{Said}

@@ -1,6 +1,6 @@
 -- The rules on texts by their names.
 use Rattle.std.specs.Prelude.{ℕ, List, Option}
-use Rattle.hazard_types.specs.declared.refusal.Refusal.{Refusal}
+use Rattle.office_types.specs.declared.refusal.Refusal.{Refusal}
 use Rattle.office_core.specs.declared.writing.TextRule.{TextRule}
 use Rattle.office_core.specs.declared.writing.TextRule.TheVariants.{Printable, Short}
 use Rattle.office_core.specs.Writing.{bad_text, long_text}

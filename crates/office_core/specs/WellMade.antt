@@ -1,6 +1,6 @@
 -- A product that was made as it should be.
 use Rattle.std.specs.Prelude.{◌≡◌, ◌≤◌, ℕ, ◌+◌, List, length, Option, None, Some, IsTrue, ⊤}
-use Rattle.hazard_types.specs.declared.request.Plan.{Plan}
+use Rattle.office_types.specs.declared.request.Plan.{Plan}
 use Rattle.event_life.specs.Reordered.{are_lawful}
 use Rattle.event_numbers.specs.declared.Count.{Count}
 use Rattle.event_numbers.specs.Counts.{AreDrawnInOrder}

@@ -2,9 +2,9 @@
 use Rattle.std.specs.Prelude.{◌==◌, ◌||◌, ◌&&◌, not, ℕ, suc, Bool, false, List, [], ◌∷◌, length, nat_lt, Option, None, Some, option_map, codes, if◌then◌else◌}
 use Rattle.std.specs.Option.{option_or}
 use Rattle.hazard_types.specs.Characters.{is_printable}
-use Rattle.hazard_types.specs.declared.refusal.Refusal.{Refusal}
-use Rattle.hazard_types.specs.declared.refusal.Refusal.TheVariants.{BadText, TextTooLong}
-use Rattle.hazard_types.specs.declared.request.Texts.{Texts}
+use Rattle.office_types.specs.declared.refusal.Refusal.{Refusal}
+use Rattle.office_types.specs.declared.refusal.Refusal.TheVariants.{BadText, TextTooLong}
+use Rattle.office_types.specs.declared.request.Texts.{Texts}
 
 -- the byte is $ or &, and the next one is the same
 abbrev pub is_doubled : ℕ → List ℕ → Bool

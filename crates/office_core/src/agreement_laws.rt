@@ -2,8 +2,8 @@
 //! code.
 ghost use Rattle.std.specs.Prelude.{◌≡◌, ◌≤◌, List, [], Option, None};
 ghost use Rattle.hazard_types.specs.declared.codes.Class.{Class};
-ghost use Rattle.hazard_types.specs.declared.request.Edition.{Edition};
-ghost use Rattle.hazard_types.specs.declared.request.Entry.{Entry};
+ghost use Rattle.office_types.specs.declared.request.Edition.{Edition};
+ghost use Rattle.office_types.specs.declared.request.Entry.{Entry};
 ghost use Rattle.desk_settings.specs.declared.settings.Settings.{Settings};
 ghost use Rattle.event_numbers.specs.declared.Count.{Count};
 ghost use Rattle.office_core.specs.Agreement.{Agrees};

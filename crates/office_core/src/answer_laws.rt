@@ -1,10 +1,10 @@
 //! Laws: a request has one answer, and so has a look; a request may be judged again at its own
 //! minute; and what is prepared stays valid while other requests are prepared. They have no code.
 ghost use Rattle.std.specs.Prelude.{◌≡◌, ◌⊎◌, ◌≤◌, ℕ, ℤ, pos, List, Option};
-ghost use Rattle.hazard_types.specs.declared.refusal.Refusal.{Refusal};
-ghost use Rattle.hazard_types.specs.declared.request.Query.{Query};
-ghost use Rattle.hazard_types.specs.declared.request.Reply.{Reply};
-ghost use Rattle.hazard_types.specs.declared.request.Request.{Request};
+ghost use Rattle.office_types.specs.declared.refusal.Refusal.{Refusal};
+ghost use Rattle.office_types.specs.declared.request.Query.{Query};
+ghost use Rattle.office_types.specs.declared.request.Reply.{Reply};
+ghost use Rattle.office_types.specs.declared.request.Request.{Request};
 ghost use Rattle.office_core.specs.Look.{RefusesLook, Shows};
 ghost use Rattle.office_core.specs.Prepared.{MayCommit, Readied};
 ghost use Rattle.office_core.specs.State.{State};

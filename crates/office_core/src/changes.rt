@@ -9,7 +9,8 @@ ghost use Rattle.office_core.specs.Step.{drafts_after, taken_by, with_draft, wit
 use crate::copies::{copied_event, copied_intents, copied_put, copied_routine};
 use crate::office::Office;
 use crate::prepared::DraftChange;
-use hazard_types::{Category, Desk, Draft, Intent, List, Minute, Oom, Request};
+use hazard_types::{Category, List, Minute, Oom};
+use office_types::{Desk, Draft, Intent, Request};
 use std::alloc::Global;
 
 /// The index of the open draft `id`.

@@ -17,7 +17,8 @@ use crate::office::Office;
 use crate::prepared::{DraftChange, Prepared};
 use event_numbers::Numbers;
 use hazard_board::Board;
-use hazard_types::{Desk, Draft, Entry, Minute, Sent};
+use hazard_types::Minute;
+use office_types::{Desk, Draft, Entry, Sent};
 
 /// Changes the open drafts.
 fn change_drafts(drafts: &mut Vec<Draft>, change: DraftChange)

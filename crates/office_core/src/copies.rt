@@ -1,7 +1,8 @@
 //! Copies of requests and of intents.
 ghost use Rattle.std.specs.Prelude.{◌≡◌, IfOk};
 
-use hazard_types::{EventPart, Intent, List, Oom, PutPart, Request, RoutinePart};
+use hazard_types::{List, Oom};
+use office_types::{EventPart, Intent, PutPart, Request, RoutinePart};
 use std::alloc::Global;
 
 pub(crate) fn copied_put(part: &PutPart) -> Result<PutPart, Oom>

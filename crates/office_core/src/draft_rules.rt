@@ -1,13 +1,14 @@
 //! The rules on drafts (docs/REQUESTS.md, "Drafts and the parts of a request").
 ghost use Rattle.std.specs.Prelude.{◌≡◌, ◌≤◌, ◌+◌, ◌&&◌, if◌then◌else◌, IfSome, None, Some, find, is_some, length, nat_le, nat_lt, option_map};
-ghost use Rattle.hazard_types.specs.declared.refusal.Refusal.TheVariants as Refused;
+ghost use Rattle.office_types.specs.declared.refusal.Refusal.TheVariants as Refused;
 ghost use Rattle.office_core.specs.Requests.{draft_of, intent_of, takes};
 ghost use Rattle.office_core.specs.Rules.{no_draft, found_draft, is_others, not_owner, still_active, drafts_full, intents_full, no_intent, broken_draft};
 ghost use Rattle.office_core.specs.State.{draft_at, is_draft};
 
 use crate::office::{MOST_DRAFTS, Office};
 use action_planner::MOST_INTENTS;
-use hazard_types::{Desk, Draft, Minute, Refusal, Request};
+use hazard_types::Minute;
+use office_types::{Desk, Draft, Refusal, Request};
 
 /// The minutes after its last touch for which a draft is its owner's alone.
 const ACTIVE: u32 = 10;

@@ -1,5 +1,5 @@
 //! The last accepted request of each desk.
-use hazard_types::{Desk, Reply, Request};
+use office_types::{Desk, Reply, Request};
 
 /// The last accepted request of a desk: its number, what it asks for, and its reply.
 #[derive(Debug, Drop)]

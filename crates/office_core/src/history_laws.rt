@@ -4,7 +4,7 @@ ghost use Rattle.hazard_types.specs.declared.codes.Class.{Class};
 ghost use Rattle.desk_settings.specs.declared.settings.Settings.{Settings};
 ghost use Rattle.office_core.specs.Histories.{Entered, IsLegal, StandOnce, entries_of};
 ghost use Rattle.event_numbers.specs.declared.Count.{Count};
-ghost use Rattle.hazard_types.specs.declared.request.Request.{Request};
+ghost use Rattle.office_types.specs.declared.request.Request.{Request};
 ghost use Rattle.office_core.specs.Sound.{IsSound};
 ghost use Rattle.office_core.specs.State.{State, last_number};
 ghost use Rattle.office_core.specs.Step.{Accepts, entry_of, state_after};

@@ -1,8 +1,8 @@
 //! Looks: the board, a product, a draft, and the text that a draft would give.
 ghost use Rattle.std.specs.Prelude.{◌≡◌, ◌≤◌, IfOk, IfSome, Some, Err, false, option_map};
 ghost use Rattle.hazard_types.specs.declared.or.Or.TheVariants.{No};
-ghost use Rattle.hazard_types.specs.declared.refusal.Refusal.{Refusal as Refused};
-ghost use Rattle.hazard_types.specs.declared.request.Query.TheVariants as Looked;
+ghost use Rattle.office_types.specs.declared.refusal.Refusal.{Refusal as Refused};
+ghost use Rattle.office_types.specs.declared.request.Query.TheVariants as Looked;
 ghost use Rattle.office_core.specs.Look.{LacksDraft, LacksProduct, RefusesLook, Shows, ShowsDraft, ShowsProduct};
 ghost use Rattle.office_core.specs.Making.{drafted_by};
 ghost use Rattle.office_core.specs.Rules.{is_out, minute_of};
@@ -13,7 +13,8 @@ use crate::number_rules::{is_out, minute_at};
 use crate::office::Office;
 use crate::soundness_laws::{entries_come_in_order, open_drafts_are_sound};
 use board_text::put_board;
-use hazard_types::{Draft, List, Minute, Or, Query, Refusal, Sent, Text};
+use hazard_types::{List, Minute, Or, Text};
+use office_types::{Draft, Query, Refusal, Sent};
 use request_json::draft_text;
 use std::alloc::Global;
 

@@ -2,7 +2,7 @@
 ghost use Rattle.std.specs.Prelude.{◌≡◌, ◌≤◌, Some, None, Err, IfOk, OnOk, option_map};
 ghost use Rattle.hazard_types.specs.Hazards.{facts_of};
 ghost use Rattle.hazard_types.specs.declared.or.Or.TheVariants.{No};
-ghost use Rattle.hazard_types.specs.declared.refusal.Refusal.{Refusal as Refused};
+ghost use Rattle.office_types.specs.declared.refusal.Refusal.{Refusal as Refused};
 ghost use Rattle.product_frame.specs.Frame.{FrameOf};
 ghost use Rattle.product_frame.specs.Splitting.{IsOneProduct};
 ghost use Rattle.product_template.specs.Conditions.{CanBeText};
@@ -24,9 +24,9 @@ use action_planner::{
     opened_events_are_drawn_in_order, plan, plan_correction, rows_tell_the_numbers,
 };
 use hazard_types::desk_hazards::facts;
-use hazard_types::{
-    Category, Desk, Draft, EventTexts, Intent, List, Minute, Oom, Or, Plan, PutPart, Refusal,
-    Request, Sent, Target,
+use hazard_types::{Category, List, Minute, Oom, Or};
+use office_types::{
+    Desk, Draft, EventTexts, Intent, Plan, PutPart, Refusal, Request, Sent, Target,
 };
 use product_template::product_text;
 use std::alloc::Global;

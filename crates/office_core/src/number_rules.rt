@@ -6,7 +6,8 @@ ghost use Rattle.office_core.specs.State.{said_in, said_by, last_number};
 
 use crate::heard::{Heard, Said};
 use crate::office::Office;
-use hazard_types::{Desk, Minute, Refusal};
+use hazard_types::Minute;
+use office_types::{Desk, Refusal};
 
 /// The last minute that a reading may be.
 const LAST_READING: i64 = 52_000_000;

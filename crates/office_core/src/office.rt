@@ -12,7 +12,8 @@ use crate::soundness_laws::offices_begin_sound;
 use desk_settings::Settings;
 use event_numbers::Numbers;
 use hazard_board::Board;
-use hazard_types::{Class, Desk, Draft, Edition, List, Minute, Oom, Reply, Sent};
+use hazard_types::{Class, List, Minute, Oom};
+use office_types::{Desk, Draft, Edition, Reply, Sent};
 use std::alloc::Global;
 use std::marker::Model;
 

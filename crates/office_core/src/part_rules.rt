@@ -16,7 +16,8 @@ use crate::office::Office;
 use crate::writing::{TextRule, first_text};
 use desk_settings::Settings;
 use hazard_types::desk_hazards::facts;
-use hazard_types::{Category, Draft, Hazard, List, Oom, Refusal, Request, Sent, Target, Zone};
+use hazard_types::{Category, Hazard, List, Oom, Zone};
+use office_types::{Draft, Refusal, Request, Sent, Target};
 use std::alloc::Global;
 
 /// The hazard of a target; for an event, the event's.

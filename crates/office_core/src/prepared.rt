@@ -1,6 +1,7 @@
 //! What is prepared, before it is committed.
 use crate::made::Made;
-use hazard_types::{Draft, Entry, Minute, Reply, Text};
+use hazard_types::{Minute, Text};
+use office_types::{Draft, Entry, Reply};
 use std::marker::Model;
 
 /// The change of the open drafts. The places are indices among them, from 0.

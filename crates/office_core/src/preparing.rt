@@ -3,8 +3,8 @@ ghost use Rattle.std.specs.Prelude.{◌≡◌, ◌≤◌, ◌<◌, ◌-◌, Some
 ghost use Rattle.std.specs.Vec.{vec_capacity, vec_len};
 ghost use Rattle.hazard_board.specs.Board.{openings};
 ghost use Rattle.hazard_types.specs.declared.or.Or.TheVariants.{No};
-ghost use Rattle.hazard_types.specs.declared.refusal.Refusal.{Refusal as Refused};
-ghost use Rattle.hazard_types.specs.declared.request.Reply.{Reply as Answered};
+ghost use Rattle.office_types.specs.declared.refusal.Refusal.{Refusal as Refused};
+ghost use Rattle.office_types.specs.declared.request.Reply.{Reply as Answered};
 ghost use Rattle.request_json.specs.Formed.{HasRequestForm};
 ghost use Rattle.office_core.specs.Prepared.{HasPlace, IsReady, Readied, changed};
 ghost use Rattle.office_core.specs.Rules.{drafts_full};
@@ -24,7 +24,8 @@ use crate::soundness_laws::{
 };
 use event_numbers::Numbers;
 use hazard_board::{Board, openings};
-use hazard_types::{Desk, Entry, Minute, Oom, Or, Refusal, Request, Sent, equality_is_identity};
+use hazard_types::{Minute, Oom, Or};
+use office_types::{Desk, Entry, Refusal, Request, Sent, equality_of_requests_is_identity};
 use std::alloc::Global;
 
 /// Takes memory for a product: a row for each line that opens one, a count for each event that it
@@ -132,7 +133,7 @@ impl Office {
     {
         // What holds of every office comes to the proof by this read.
         let _ = &self.settings;
-        equality_is_identity();
+        equality_of_requests_is_identity();
         requests_make_sound_products();
         entries_come_in_order();
         sound_products_may_be_planned();

@@ -1,13 +1,14 @@
 //! The text that a send of a draft would give.
 ghost use Rattle.std.specs.Prelude.{◌≡◌, ◌≤◌, Some, Err, IfOk};
 ghost use Rattle.hazard_types.specs.declared.or.Or.TheVariants.{No};
-ghost use Rattle.hazard_types.specs.declared.refusal.Refusal.{Refusal as Refused};
+ghost use Rattle.office_types.specs.declared.refusal.Refusal.{Refusal as Refused};
 ghost use Rattle.office_core.specs.Look.{BreaksAsPreview, ShowsPreview};
 ghost use Rattle.office_core.specs.Making.{drafted_by};
 ghost use Rattle.office_core.specs.Sound.{IsSoundMaking};
 
 use crate::office::Office;
-use hazard_types::{Draft, Minute, Or, Refusal, Text};
+use hazard_types::{Minute, Or, Text};
+use office_types::{Draft, Refusal};
 use std::alloc::Global;
 
 impl Office {

@@ -1,13 +1,14 @@
 //! The reply to a request.
 ghost use Rattle.std.specs.Prelude.{◌≡◌, ◌≤◌, ◌<◌, IfOk, find, length, option_map};
 ghost use Rattle.std.specs.List.{All};
-ghost use Rattle.hazard_types.specs.declared.request.Draft.{Draft as OpenDraft};
+ghost use Rattle.office_types.specs.declared.request.Draft.{Draft as OpenDraft};
 ghost use Rattle.office_core.specs.State.{is_draft};
 ghost use Rattle.office_core.specs.Step.{intents_of, reply_of, sent_reply};
 
 use crate::made::Made;
 use crate::office::Office;
-use hazard_types::{Draft, Oom, Reply, Request, SentReply, Word};
+use hazard_types::Oom;
+use office_types::{Draft, Reply, Request, SentReply, Word};
 
 /// The open draft `id`.
 pub(crate) fn find_draft(drafts: &[Draft], id: u32) -> Option<&Draft>

@@ -5,7 +5,8 @@ ghost use Rattle.office_core.specs.Rules.{broken_request, is_out, is_repeated, m
 
 use crate::number_rules::{later, minute_at};
 use crate::office::Office;
-use hazard_types::{Desk, Minute, Oom, Refusal, Request};
+use hazard_types::{Minute, Oom};
+use office_types::{Desk, Refusal, Request};
 use std::alloc::Global;
 
 impl Office {

@@ -2,7 +2,8 @@
 ghost use Rattle.std.specs.Prelude.{◌≡◌, ◌≤◌};
 ghost use Rattle.office_core.specs.Making.{corrects, counted_as, last_of_category, letters_of, original_of, same_category};
 
-use hazard_types::{Category, Sent};
+use hazard_types::Category;
+use office_types::Sent;
 
 /// The most corrections of a product, CCA to CCX.
 const MOST_LETTERS: usize = 24;

@@ -2,9 +2,9 @@
 //! makes may be planned and written. They have no code.
 ghost use Rattle.std.specs.Prelude.{◌≡◌, ◌≤◌, ℕ, ℤ, List, [], Option, None, true, false};
 ghost use Rattle.hazard_types.specs.declared.codes.Class.{Class};
-ghost use Rattle.hazard_types.specs.declared.request.Edition.{Edition};
-ghost use Rattle.hazard_types.specs.declared.request.Plan.{Plan};
-ghost use Rattle.hazard_types.specs.declared.request.Request.{Request};
+ghost use Rattle.office_types.specs.declared.request.Edition.{Edition};
+ghost use Rattle.office_types.specs.declared.request.Plan.{Plan};
+ghost use Rattle.office_types.specs.declared.request.Request.{Request};
 ghost use Rattle.desk_settings.specs.AreSettings.{HasForms};
 ghost use Rattle.desk_settings.specs.declared.settings.Settings.{Settings};
 ghost use Rattle.event_numbers.specs.declared.Count.{Count};

@@ -1,11 +1,12 @@
 //! The rules on a forecaster's texts (docs/REQUESTS.md, "Drafts and the parts of a request").
 ghost use Rattle.std.specs.Prelude.{◌≡◌, IfOk, map};
-ghost use Rattle.hazard_types.specs.declared.request.EventTexts.{EventTexts as TextsOn};
+ghost use Rattle.office_types.specs.declared.request.EventTexts.{EventTexts as TextsOn};
 ghost use Rattle.office_core.specs.Requests.{texts_in};
 ghost use Rattle.office_core.specs.TextRules.{under};
 ghost use Rattle.office_core.specs.Writing.{is_doubled, bad_at, bad_text, long_text, first_field, first_texts};
 
-use hazard_types::{EventTexts, List, Oom, Refusal, Request, Text, Texts, is_printable};
+use hazard_types::{List, Oom, Text, is_printable};
+use office_types::{EventTexts, Refusal, Request, Texts};
 use std::alloc::Global;
 
 /// The most bytes of a text.

@@ -2,9 +2,9 @@
 use Rattle.std.proofs.Common.{◌≡◌, ◌≢◌, ◌⊎◌, ◌+◌, ◌-◌, ◌^◌, min, inl, inr, ⊎_elim, ℕ, ℤ, List, Option, Some, IfSome, length, option_map, refl, sym, ◌∙◌, ap, subst}
 use Rattle.desk_traits.specs.Crash.{Crashes, LeavesOnly}
 use Rattle.desk_traits.specs.Faults.{Rose}
-use Rattle.hazard_types.specs.declared.refusal.Refusal.{Refusal}
-use Rattle.hazard_types.specs.declared.request.Reply.{Reply}
-use Rattle.hazard_types.specs.declared.request.Request.{Request}
+use Rattle.office_types.specs.declared.refusal.Refusal.{Refusal}
+use Rattle.office_types.specs.declared.request.Reply.{Reply}
+use Rattle.office_types.specs.declared.request.Request.{Request}
 use Rattle.journal_core.specs.Kept.{Keeps}
 use Rattle.request_json.specs.Replies.{reply_text}
 use Rattle.office_core.specs.Histories.{Entered}

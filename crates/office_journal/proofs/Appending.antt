@@ -3,7 +3,7 @@ use Rattle.std.proofs.Common.{◌≡◌, ◌≤◌, ◌+◌, ◌⊎◌, inl, inr
 use Rattle.desk_traits.specs.Crash.{AreCrashes, Crashes}
 use Rattle.desk_traits.specs.File.{Only}
 use Rattle.desk_traits.proofs.Moments.{nothing}
-use Rattle.hazard_types.specs.declared.request.Request.{Request}
+use Rattle.office_types.specs.declared.request.Request.{Request}
 use Rattle.journal_core.specs.Image.{IsOneOf, records}
 use Rattle.journal_core.specs.Journal.{MayPend}
 use Rattle.journal_core.specs.Kept.{Keeps}

@@ -1,6 +1,6 @@
 -- What an append makes of a journal that stands for a history, and what a crash leaves of it.
 use Rattle.std.proofs.Common.{◌≡◌, ◌⊎◌, inl, inr, ⊎_elim, ℕ, List, [], ◌∷◌, ◌++◌, Option, None, Some, option_map, IfSome, refl, sym, ap, subst}
-use Rattle.hazard_types.specs.declared.request.Edition.TheVariants.{Two}
+use Rattle.office_types.specs.declared.request.Edition.TheVariants.{Two}
 use Rattle.journal_core.specs.Image.{Image, IsOneOf}
 use Rattle.journal_core.specs.Journal.{LeavesBodies, MayPend}
 use Rattle.office_core.specs.State.{State, in_edition}

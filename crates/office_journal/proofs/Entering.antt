@@ -1,10 +1,10 @@
 -- The entry of what was prepared may follow a history.
 use Rattle.std.proofs.Common.{◌≡◌, ◌≤◌, ◌+◌, ℕ, ℤ, pos, List, length, Option, refl, sym, ◌∙◌, ap, subst, arith}
 use Rattle.std.proofs.lemmas.Bool.{le-leb}
-use Rattle.hazard_types.specs.declared.request.Edition.{Edition}
-use Rattle.hazard_types.specs.declared.request.Entry.{Entry}
-use Rattle.hazard_types.specs.declared.request.Request.{Request}
-use Rattle.hazard_types.specs.declared.request.Request.TheVariants.{Issue, Begin, Put, Finish, Restate, Routine, Drop, Take, Discard, Send, Correct}
+use Rattle.office_types.specs.declared.request.Edition.{Edition}
+use Rattle.office_types.specs.declared.request.Entry.{Entry}
+use Rattle.office_types.specs.declared.request.Request.{Request}
+use Rattle.office_types.specs.declared.request.Request.TheVariants.{Issue, Begin, Put, Finish, Restate, Routine, Drop, Take, Discard, Send, Correct}
 use Rattle.journal_core.specs.Image.{records}
 use Rattle.request_json.specs.Formed.{HasForm}
 use Rattle.office_core.specs.Histories.{Entered, IsNext}

@@ -1,8 +1,8 @@
 -- Histories behind what was given, and what crashes leave of them.
 use Rattle.std.proofs.Common.{ℕ, ◌≡◌, ◌⊎◌, inl, inr, ⊎_elim, List, [], ◌∷◌, ◌++◌, refl, ap, sym, ◌∙◌, subst}
 use Rattle.std.proofs.lemmas.List.{append-nil, append_assoc}
-use Rattle.hazard_types.specs.declared.request.Edition.{Edition}
-use Rattle.hazard_types.specs.declared.request.Edition.TheVariants.{One, Two}
+use Rattle.office_types.specs.declared.request.Edition.{Edition}
+use Rattle.office_types.specs.declared.request.Edition.TheVariants.{One, Two}
 use Rattle.office_core.specs.Histories.{Entered, MayFollow}
 use Rattle.office_journal.specs.Changes.{Change, Leaves}
 use Rattle.office_journal.specs.Given.{Gave, GivesNext, IsFront, MayPend, entries_given, history_behind, pends_after, with_entry, with_given}

@@ -3,8 +3,8 @@ use Rattle.std.proofs.Common.{◌≡◌, ◌+◌, ℕ, Bool, List, [], ◌∷◌
 use Rattle.std.specs.Int.{w32, to_be_bytes}
 use Rattle.journal_core.specs.Image.{records, spelled}
 use Rattle.std.proofs.lemmas.List.{append-nil}
-use Rattle.hazard_types.specs.declared.request.Edition.{Edition}
-use Rattle.hazard_types.specs.declared.request.Edition.TheVariants.{One, Two}
+use Rattle.office_types.specs.declared.request.Edition.{Edition}
+use Rattle.office_types.specs.declared.request.Edition.TheVariants.{One, Two}
 use Rattle.office_core.specs.Histories.{Entered, IsNext, LeadFrom, MayFollow}
 use Rattle.office_core.specs.State.{State, in_edition}
 use Rattle.office_core.specs.Step.{state_after}

@@ -6,11 +6,11 @@ use Rattle.std.specs.List.{AllByRecursion, list_any}
 use Rattle.std.specs.Str.{bytes_eq}
 use Rattle.desk_traits.specs.Crash.{Crashes}
 use Rattle.hazard_types.specs.declared.codes.Class.TheVariants.{O}
-use Rattle.hazard_types.specs.declared.refusal.Refusal.TheVariants as refusal
-use Rattle.hazard_types.specs.declared.request.Edition.TheVariants.{One}
-use Rattle.hazard_types.specs.declared.request.Entry.{Entry}
-use Rattle.hazard_types.specs.declared.request.Reply.{Reply}
-use Rattle.hazard_types.specs.declared.request.Request.{Request}
+use Rattle.office_types.specs.declared.refusal.Refusal.TheVariants as refusal
+use Rattle.office_types.specs.declared.request.Edition.TheVariants.{One}
+use Rattle.office_types.specs.declared.request.Entry.{Entry}
+use Rattle.office_types.specs.declared.request.Reply.{Reply}
+use Rattle.office_types.specs.declared.request.Request.{Request}
 use Rattle.hazard_types.proofs.Equality.{request_itself}
 use Rattle.desk_settings.specs.declared.settings.Settings.{Settings}
 use Rattle.request_json.specs.Replies.{reply_text}

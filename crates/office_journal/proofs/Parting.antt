@@ -7,11 +7,11 @@ use Rattle.std.proofs.Math.Seq.{get_or-append_seam, take-append_seam, take-lengt
 use Rattle.std.specs.List.{position_or_len}
 use Rattle.hazard_types.proofs.Stamps.{stamp_spells}
 use Rattle.hazard_types.specs.Calendar.{stamp_at, stamp_of}
-use Rattle.hazard_types.specs.declared.refusal.Refusal.{Refusal}
-use Rattle.hazard_types.specs.declared.request.Edition.{Edition}
-use Rattle.hazard_types.specs.declared.request.Edition.TheVariants.{One, Two}
-use Rattle.hazard_types.specs.declared.request.Entry.{Entry}
-use Rattle.hazard_types.specs.declared.request.Request.{Request}
+use Rattle.office_types.specs.declared.refusal.Refusal.{Refusal}
+use Rattle.office_types.specs.declared.request.Edition.{Edition}
+use Rattle.office_types.specs.declared.request.Edition.TheVariants.{One, Two}
+use Rattle.office_types.specs.declared.request.Entry.{Entry}
+use Rattle.office_types.specs.declared.request.Request.{Request}
 use Rattle.request_json.proofs.RequestsBack.{text_reads_back}
 use Rattle.request_json.specs.Canonical.{asked_text}
 use Rattle.request_json.specs.Form.{asked_of}

@@ -2,10 +2,10 @@
 use Rattle.std.proofs.Common.{if◌then◌else◌, ltb, inl, ◌≡◌, ◌≢◌, ◌≤◌, ℕ, pos, ◌+◌, Bool, true, false, List, [], ◌∷◌, ◌++◌, Option, Some, Result, Ok, Err, length, refl, sym, ◌∙◌, ap, subst, arith, inr, leb}
 use Rattle.std.proofs.lemmas.Bool.{leb-true, le-leb, ltb-false}
 use Rattle.hazard_types.specs.declared.codes.Class.TheVariants.{O}
-use Rattle.hazard_types.specs.declared.refusal.Refusal.{Refusal}
-use Rattle.hazard_types.specs.declared.request.Edition.{Edition}
-use Rattle.hazard_types.specs.declared.request.Edition.TheVariants.{One, Two}
-use Rattle.hazard_types.specs.declared.request.Entry.{Entry}
+use Rattle.office_types.specs.declared.refusal.Refusal.{Refusal}
+use Rattle.office_types.specs.declared.request.Edition.{Edition}
+use Rattle.office_types.specs.declared.request.Edition.TheVariants.{One, Two}
+use Rattle.office_types.specs.declared.request.Entry.{Entry}
 use Rattle.desk_settings.specs.Reading.{settings_of}
 use Rattle.desk_settings.specs.declared.fault.SettingsFault.{SettingsFault}
 use Rattle.desk_settings.specs.declared.fault.SettingsFault.TheVariants.{TooLong}

@@ -2,8 +2,8 @@
 use Rattle.std.proofs.Common.{◌≡◌, ◌≢◌, ℕ, Bool, List, [], ◌∷◌, ◌++◌, Result, Ok, refl, sym, ◌∙◌, ap, subst, append_assoc}
 use Rattle.std.proofs.lemmas.List.{append-nil}
 use Rattle.hazard_types.specs.declared.codes.Class.TheVariants.{O}
-use Rattle.hazard_types.specs.declared.request.Edition.{Edition}
-use Rattle.hazard_types.specs.declared.request.Edition.TheVariants.{One, Two}
+use Rattle.office_types.specs.declared.request.Edition.{Edition}
+use Rattle.office_types.specs.declared.request.Edition.TheVariants.{One, Two}
 use Rattle.desk_settings.specs.declared.fault.SettingsFault.{SettingsFault}
 use Rattle.desk_settings.specs.declared.settings.Settings.{Settings}
 use Rattle.office_core.specs.Histories.{Entered, IsNext, LeadFrom, MayFollow}

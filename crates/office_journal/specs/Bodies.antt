@@ -1,9 +1,9 @@
 -- The bodies of an office's journal: the settings' file, the entries, and the mark between the editions.
 use Rattle.std.specs.Prelude.{ℕ, List, [], ◌∷◌, ◌++◌, Option, None, Some, codes}
 use Rattle.hazard_types.specs.Calendar.{stamp_of}
-use Rattle.hazard_types.specs.declared.request.Edition.{Edition}
-use Rattle.hazard_types.specs.declared.request.Edition.TheVariants.{One, Two}
-use Rattle.hazard_types.specs.declared.request.Entry.{Entry}
+use Rattle.office_types.specs.declared.request.Edition.{Edition}
+use Rattle.office_types.specs.declared.request.Edition.TheVariants.{One, Two}
+use Rattle.office_types.specs.declared.request.Entry.{Entry}
 use Rattle.request_json.specs.Canonical.{asked_text}
 use Rattle.request_json.specs.declared.asked.Asked.{Asked}
 use Rattle.office_core.specs.Histories.{Entered}

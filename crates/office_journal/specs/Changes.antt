@@ -1,6 +1,6 @@
 -- How a history grows: by one entry, or by the mark.
 use Rattle.std.specs.Prelude.{◌≡◌, ◌⊎◌, ℕ, List, [], ◌∷◌, ◌++◌, Option, Some}
-use Rattle.hazard_types.specs.declared.request.Edition.TheVariants.{One, Two}
+use Rattle.office_types.specs.declared.request.Edition.TheVariants.{One, Two}
 use Rattle.office_core.specs.Histories.{Entered, IsNext}
 use Rattle.office_core.specs.State.{State}
 use Rattle.office_journal.specs.Bodies.{entry_body, mark}

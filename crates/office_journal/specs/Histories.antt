@@ -1,7 +1,7 @@
 -- The histories that a journal may stand for.
 use Rattle.std.specs.Prelude.{◌≡◌, ℕ, ◌+◌, Bool, List, [], Ok, length, leb}
 use Rattle.hazard_types.specs.declared.codes.Class.TheVariants.{O}
-use Rattle.hazard_types.specs.declared.request.Edition.{Edition}
+use Rattle.office_types.specs.declared.request.Edition.{Edition}
 use Rattle.desk_settings.specs.Reading.{settings_of}
 use Rattle.desk_settings.specs.declared.settings.Settings.{Settings}
 use Rattle.journal_core.specs.Image.{records, Image}

@@ -3,8 +3,8 @@ use Rattle.std.specs.Prelude.{◌≡◌, ◌⊎◌, ◌+◌, ◌-◌, ◌^◌, �
 use Rattle.desk_traits.specs.Crash.{Crashes, LeavesOnly}
 use Rattle.desk_traits.specs.Faults.{Rose}
 use Rattle.desk_traits.specs.File.{Only}
-use Rattle.hazard_types.specs.declared.refusal.Refusal.{Refusal}
-use Rattle.hazard_types.specs.declared.refusal.Refusal.TheVariants.{JournalFull}
+use Rattle.office_types.specs.declared.refusal.Refusal.{Refusal}
+use Rattle.office_types.specs.declared.refusal.Refusal.TheVariants.{JournalFull}
 use Rattle.request_json.specs.Replies.{reply_text}
 use Rattle.office_core.specs.Agreement.{ReadsAsTheBoard}
 use Rattle.office_core.specs.Histories.{Entered}

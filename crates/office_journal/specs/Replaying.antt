@@ -2,8 +2,8 @@
 use Rattle.std.specs.Prelude.{◌≡◌, ◌≢◌, ◌≤◌, ℕ, pos, Bool, true, false, List, [], ◌∷◌, ◌++◌, Option, None, Some, Result, Ok, Err, length}
 use Rattle.hazard_types.specs.declared.or.Or.{Or}
 use Rattle.hazard_types.specs.declared.or.Or.TheVariants.{No, OutOfMemory}
-use Rattle.hazard_types.specs.declared.request.Edition.{Edition}
-use Rattle.hazard_types.specs.declared.request.Edition.TheVariants.{One, Two}
+use Rattle.office_types.specs.declared.request.Edition.{Edition}
+use Rattle.office_types.specs.declared.request.Edition.TheVariants.{One, Two}
 use Rattle.desk_settings.specs.Reading.{settings_of}
 use Rattle.desk_settings.specs.declared.settings.Settings.{Settings}
 use Rattle.journal_core.specs.Image.{records}

@@ -2,7 +2,7 @@
 use Rattle.std.specs.Prelude.{◌≡◌, ◌≢◌, ◌⊎◌, ◌++◌, ◌∷◌, ℕ, ℤ, List, Option}
 use Rattle.std.specs.List.{AllByRecursion}
 use Rattle.desk_traits.specs.Crash.{Crashes}
-use Rattle.hazard_types.specs.declared.request.Reply.{Reply}
+use Rattle.office_types.specs.declared.request.Reply.{Reply}
 use Rattle.request_json.specs.Replies.{reply_text}
 use Rattle.office_core.specs.Histories.{Entered}
 use Rattle.office_core.specs.Step.{Refuses, Repeats}

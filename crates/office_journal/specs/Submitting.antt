@@ -1,6 +1,6 @@
 -- What becomes of a request that is submitted.
 use Rattle.std.specs.Prelude.{◌≡◌, ◌⊎◌, ◌+◌, ◌<◌, ℕ, ℤ, List, length, Option, None, Some}
-use Rattle.hazard_types.specs.declared.request.Request.{Request}
+use Rattle.office_types.specs.declared.request.Request.{Request}
 use Rattle.office_core.specs.Histories.{Entered}
 use Rattle.office_core.specs.Prepared.{IsReady, Readied}
 use Rattle.office_core.specs.State.{State}

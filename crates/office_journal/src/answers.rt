@@ -1,6 +1,6 @@
 //! The answers of a `KeptOffice`.
 use crate::submit::KeptReply;
-use hazard_types::Refusal;
+use office_types::Refusal;
 
 /// The answer to a request. In all cases but `Accepted` and `DiskFault` the office and its disk are
 /// as before.

@@ -7,7 +7,7 @@ ghost use Rattle.desk_settings.specs.AreSettings.{AreSettings};
 ghost use Rattle.desk_settings.specs.Reading.{settings_of};
 ghost use Rattle.desk_settings.specs.declared.fault.SettingsFault.{SettingsFault as Fault};
 ghost use Rattle.hazard_types.specs.declared.codes.Class.TheVariants.{O};
-ghost use Rattle.hazard_types.specs.declared.request.Edition.TheVariants.{One, Two};
+ghost use Rattle.office_types.specs.declared.request.Edition.TheVariants.{One, Two};
 ghost use Rattle.journal_core.specs.Create.{IsMaking};
 ghost use Rattle.journal_core.specs.Image.{Fresh, IsOneOf};
 ghost use Rattle.journal_core.specs.Kept.{Keeps};
@@ -24,9 +24,10 @@ use crate::faults::KeepFault;
 use crate::kept::KeptOffice;
 use desk_settings::{Settings, read_settings};
 use desk_traits::Disk;
-use hazard_types::{Class, Edition, Oom, Or};
+use hazard_types::{Class, Oom, Or};
 use journal_core::{AppendFault, CreateFault, Journal, Packet};
 use office_core::Office;
+use office_types::Edition;
 use std::alloc::Global;
 
 impl<D: Disk> KeptOffice<D> {

@@ -2,8 +2,9 @@
 ghost use Rattle.std.specs.Prelude.{◌≡◌, IfOk};
 ghost use Rattle.office_journal.specs.Bodies.{entry_body};
 
-use hazard_types::{Desk, Edition, Oom, Request, Text, stamp};
+use hazard_types::{Oom, Text, stamp};
 use office_core::Prepared;
+use office_types::{Desk, Edition, Request};
 use request_json::text_of_request;
 use std::alloc::Global;
 

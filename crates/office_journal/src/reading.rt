@@ -1,13 +1,14 @@
 //! What can be read of a `KeptOffice`.
 ghost use Rattle.std.specs.Prelude.{◌≡◌, Err, IfOk, length};
 ghost use Rattle.hazard_types.specs.declared.or.Or.TheVariants.{No};
-ghost use Rattle.hazard_types.specs.declared.refusal.Refusal.{Refusal as Refused};
+ghost use Rattle.office_types.specs.declared.refusal.Refusal.{Refusal as Refused};
 ghost use Rattle.office_core.specs.Look.{RefusesLook, Shows};
 ghost use Rattle.office_journal.specs.Kept.{disk_of, entries_of, notes_of, state_of};
 
 use crate::kept::KeptOffice;
 use desk_traits::Disk;
-use hazard_types::{Edition, Or, Query, Refusal, Text};
+use hazard_types::{Or, Text};
+use office_types::{Edition, Query, Refusal};
 use std::alloc::Global;
 
 impl<D: Disk> KeptOffice<D> {

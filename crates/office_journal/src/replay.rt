@@ -1,7 +1,7 @@
 //! Builds an office from the bodies of a journal.
 ghost use Rattle.std.specs.Prelude.{◌≡◌, ◌≤◌, ◌<◌, ◌∷◌, [], Some, Ok, IfOk, length};
 ghost use Rattle.std.specs.Bool.{Decides};
-ghost use Rattle.hazard_types.specs.declared.request.Edition.TheVariants.{One};
+ghost use Rattle.office_types.specs.declared.request.Edition.TheVariants.{One};
 ghost use Rattle.request_json.specs.Form.{asked_of};
 ghost use Rattle.request_json.specs.Formed.{HasForm};
 ghost use Rattle.office_journal.specs.Bodies.{entry_body, mark};
@@ -12,9 +12,10 @@ ghost use Rattle.office_journal.specs.Submitting.{entered};
 use crate::entry_bodies::entry_body;
 use crate::parts::{asked_in, minute_in, record_length};
 use desk_settings::read_settings;
-use hazard_types::{Class, Edition, Minute, Oom, Or, Text};
+use hazard_types::{Class, Minute, Oom, Or, Text};
 use journal_core::LIMIT;
 use office_core::{Office, Prepared, Ready, a_request_has_one_answer, offices_begin_in_agreement};
+use office_types::Edition;
 use request_json::{Asked, canonical_texts_are_lines};
 use std::alloc::Global;
 

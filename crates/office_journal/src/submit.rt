@@ -1,9 +1,9 @@
 //! Submits requests to a `KeptOffice`.
 ghost use Rattle.std.specs.Prelude.{◌≡◌, ◌⊎◌, ◌+◌, ◌-◌, ◌≤◌, ℕ, ℤ, List, Option, Some, None, IfOk, IfErr, IfSome, is_some, length, option_map, true};
 ghost use Rattle.desk_traits.specs.Crash.{LeavesOnly};
-ghost use Rattle.hazard_types.specs.declared.refusal.Refusal.{Refusal as Refused};
-ghost use Rattle.hazard_types.specs.declared.refusal.Refusal.TheVariants.{JournalFull};
-ghost use Rattle.hazard_types.specs.declared.request.Reply.{Reply as Answered};
+ghost use Rattle.office_types.specs.declared.refusal.Refusal.{Refusal as Refused};
+ghost use Rattle.office_types.specs.declared.refusal.Refusal.TheVariants.{JournalFull};
+ghost use Rattle.office_types.specs.declared.request.Reply.{Reply as Answered};
 ghost use Rattle.request_json.specs.Formed.{HasForm};
 ghost use Rattle.request_json.specs.Replies.{reply_text};
 ghost use Rattle.office_core.specs.Prepared.{IsReady};
@@ -19,9 +19,10 @@ use crate::answers::Answer;
 use crate::entry_bodies::entry_body;
 use crate::kept::KeptOffice;
 use desk_traits::Disk;
-use hazard_types::{Desk, Oom, Or, Refusal, Request, Text};
+use hazard_types::{Oom, Or, Text};
 use journal_core::{AppendFault, Packet};
 use office_core::{Prepared, Ready, accepted_requests_are_accepted_at_their_minute};
+use office_types::{Desk, Refusal, Request};
 use request_json::reply_text;
 use std::alloc::Global;
 use std::marker::Model;

@@ -3,7 +3,7 @@ ghost use Rattle.std.specs.Prelude.{◌≡◌, ◌≢◌, ◌⊎◌, ◌↔◌, 
 ghost use Rattle.desk_traits.specs.Crash.{LeavesOnly};
 ghost use Rattle.desk_traits.specs.Faults.{Rose};
 ghost use Rattle.desk_traits.specs.File.{Only};
-ghost use Rattle.hazard_types.specs.declared.request.Edition.TheVariants.{One, Two};
+ghost use Rattle.office_types.specs.declared.request.Edition.TheVariants.{One, Two};
 ghost use Rattle.office_core.specs.State.{in_edition};
 ghost use Rattle.office_journal.specs.Changes.{Change, Leaves, changed};
 ghost use Rattle.office_journal.specs.Histories.{History};
@@ -13,8 +13,8 @@ ghost use Rattle.office_journal.specs.Submitting.{MayTouch};
 use crate::answers::Upgrade;
 use crate::kept::KeptOffice;
 use desk_traits::Disk;
-use hazard_types::Edition;
 use journal_core::{AppendFault, Packet};
+use office_types::Edition;
 use std::alloc::Global;
 
 impl<D: Disk> KeptOffice<D> {

@@ -6,8 +6,8 @@ use Rattle.std.specs.declared.snapshot.Snapshot.{Snapshot}
 use Rattle.desk_traits.specs.Crash.{AreCrashes, LeavesOnly}
 use Rattle.desk_traits.specs.declared.disk.Disk.{Ghosts as Disks}
 use Rattle.desk_traits.proofs.Moments.{weaker}
-use Rattle.hazard_types.specs.declared.refusal.Refusal.{Refusal}
-use Rattle.hazard_types.specs.declared.request.Reply.{Reply}
+use Rattle.office_types.specs.declared.refusal.Refusal.{Refusal}
+use Rattle.office_types.specs.declared.request.Reply.{Reply}
 use Rattle.request_json.specs.Replies.{reply_text}
 use Rattle.request_json.specs.declared.asked.Asked.{Asked}
 use Rattle.office_core.specs.Agreement.{ReadsAsTheBoard}

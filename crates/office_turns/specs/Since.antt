@@ -2,7 +2,7 @@
 use Rattle.std.specs.Prelude.{◌≡◌, ◌+◌, ◌-◌, ◌^◌, ◌≤◌, ℕ, ℤ, All, List, [], ◌∷◌, Option, Some, IfSome, length, min}
 use Rattle.desk_traits.specs.Crash.{LeavesOnly}
 use Rattle.desk_traits.specs.declared.disk.Disk.{Ghosts as Disks}
-use Rattle.hazard_types.specs.declared.request.Request.{Request}
+use Rattle.office_types.specs.declared.request.Request.{Request}
 use Rattle.office_core.specs.Agreement.{ReadsAsTheBoard}
 use Rattle.office_core.specs.Histories.{Entered}
 use Rattle.office_core.specs.State.{State}

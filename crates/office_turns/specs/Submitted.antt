@@ -3,10 +3,10 @@ use Rattle.std.specs.Prelude.{◌≡◌, ◌⊎◌, ◌++◌, ℕ, ℤ, List, []
 use Rattle.std.specs.declared.snapshot.Snapshot.{Snapshot}
 use Rattle.hazard_types.specs.declared.or.Or.{Or}
 use Rattle.hazard_types.specs.declared.or.Or.TheVariants as or
-use Rattle.hazard_types.specs.declared.refusal.Refusal.{Refusal}
-use Rattle.hazard_types.specs.declared.refusal.Refusal.TheVariants.{JournalFull}
-use Rattle.hazard_types.specs.declared.request.Query.{Query}
-use Rattle.hazard_types.specs.declared.request.Reply.{Reply}
+use Rattle.office_types.specs.declared.refusal.Refusal.{Refusal}
+use Rattle.office_types.specs.declared.refusal.Refusal.TheVariants.{JournalFull}
+use Rattle.office_types.specs.declared.request.Query.{Query}
+use Rattle.office_types.specs.declared.request.Reply.{Reply}
 use Rattle.request_json.specs.Replies.{reply_text}
 use Rattle.request_json.specs.declared.asked.Asked.{Asked}
 use Rattle.office_core.specs.Histories.{Entered}

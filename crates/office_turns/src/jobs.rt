@@ -3,8 +3,9 @@
 use crate::shared::Story;
 use crate::tied::Tied;
 use desk_traits::{Clock, Disk};
-use hazard_types::{Or, Query, Refusal, Text};
+use hazard_types::{Or, Text};
 use office_journal::{Answer, KeptOffice};
+use office_types::{Query, Refusal};
 use request_json::Asked;
 use std::alloc::Global;
 use turn_lock::Job;

@@ -11,10 +11,10 @@ use Rattle.hazard_types.specs.declared.codes.LocalZone.{LocalZone}
 use Rattle.hazard_types.specs.declared.hazard.Event.{Event}
 use Rattle.hazard_types.specs.declared.line.SegLine.{SegLine}
 use Rattle.hazard_types.specs.declared.line.Segment.{Segment}
-use Rattle.hazard_types.specs.declared.request.Edition.{Edition}
-use Rattle.hazard_types.specs.declared.request.Edition.TheVariants.{One, Two}
-use Rattle.hazard_types.specs.declared.request.EventTexts.{EventTexts}
-use Rattle.hazard_types.specs.declared.request.Texts.{Texts}
+use Rattle.office_types.specs.declared.request.Edition.{Edition}
+use Rattle.office_types.specs.declared.request.Edition.TheVariants.{One, Two}
+use Rattle.office_types.specs.declared.request.EventTexts.{EventTexts}
+use Rattle.office_types.specs.declared.request.Texts.{Texts}
 use Rattle.desk_settings.specs.Forms.{is_zone_name}
 use Rattle.desk_settings.specs.Looking.{name_beside}
 use Rattle.desk_settings.specs.declared.settings.Settings.{Settings}

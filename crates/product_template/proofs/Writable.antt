@@ -19,9 +19,9 @@ use Rattle.hazard_types.specs.declared.line.SegLine.{SegLine}
 use Rattle.hazard_types.specs.declared.line.Segment.{Segment}
 use Rattle.hazard_types.specs.declared.period.End.{End}
 use Rattle.hazard_types.specs.declared.period.End.TheVariants.{At, Ufn}
-use Rattle.hazard_types.specs.declared.request.Edition.{Edition}
-use Rattle.hazard_types.specs.declared.request.EventTexts.{EventTexts}
-use Rattle.hazard_types.specs.declared.request.Plan.{Plan}
+use Rattle.office_types.specs.declared.request.Edition.{Edition}
+use Rattle.office_types.specs.declared.request.EventTexts.{EventTexts}
+use Rattle.office_types.specs.declared.request.Plan.{Plan}
 use Rattle.hazard_types.proofs.Years.{day_at_most, civil_ok}
 use Rattle.desk_settings.specs.Forms.{is_heading, is_site, is_office_line, is_line_byte, is_zone_name, begins_with_letter}
 use Rattle.desk_settings.specs.Looking.{category_place, name_beside}

@@ -4,8 +4,8 @@ use Rattle.hazard_types.specs.Same.{same_event}
 use Rattle.hazard_types.specs.declared.hazard.Event.{Event}
 use Rattle.hazard_types.specs.declared.line.SegLine.{SegLine}
 use Rattle.hazard_types.specs.declared.line.Segment.{Segment}
-use Rattle.hazard_types.specs.declared.request.EventTexts.{EventTexts}
-use Rattle.hazard_types.specs.declared.request.Texts.{Texts}
+use Rattle.office_types.specs.declared.request.EventTexts.{EventTexts}
+use Rattle.office_types.specs.declared.request.Texts.{Texts}
 use Rattle.product_template.specs.Bodies.{front_text, back_text}
 use Rattle.product_template.specs.declared.lengths.Told.{Told}
 

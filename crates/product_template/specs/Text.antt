@@ -7,9 +7,9 @@ use Rattle.hazard_types.specs.declared.codes.Category.TheVariants.{Wsw, Npw, Rfw
 use Rattle.hazard_types.specs.declared.codes.Class.{Class}
 use Rattle.hazard_types.specs.declared.line.SegLine.{SegLine}
 use Rattle.hazard_types.specs.declared.line.Segment.{Segment}
-use Rattle.hazard_types.specs.declared.request.Edition.{Edition}
-use Rattle.hazard_types.specs.declared.request.EventTexts.{EventTexts}
-use Rattle.hazard_types.specs.declared.request.Plan.{Plan}
+use Rattle.office_types.specs.declared.request.Edition.{Edition}
+use Rattle.office_types.specs.declared.request.EventTexts.{EventTexts}
+use Rattle.office_types.specs.declared.request.Plan.{Plan}
 use Rattle.desk_clock.specs.LocalText.{local_line_of}
 use Rattle.desk_settings.specs.Looking.{category_place}
 use Rattle.desk_settings.specs.declared.settings.Settings.{Settings}

@@ -13,10 +13,9 @@ ghost use Rattle.product_template.specs.Conditions.{CanBeSaid, CanBeSegment, Are
 use crate::bullets::{put_bullets, put_closed, texts_on};
 use crate::names::names_of;
 use desk_settings::Settings;
-use hazard_types::{
-    Class, Edition, EventTexts, List, LocalZone, Minute, Oom, SegLine, Segment, Text,
-};
+use hazard_types::{Class, List, LocalZone, Minute, Oom, SegLine, Segment, Text};
 use headline_text::{LineTexts, headline, line_texts};
+use office_types::{Edition, EventTexts};
 use product_frame::Body;
 use std::alloc::Global;
 

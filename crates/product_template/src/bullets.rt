@@ -4,8 +4,9 @@ ghost use Rattle.hazard_types.specs.declared.codes.Action.TheVariants as action;
 ghost use Rattle.headline_text.specs.Lines.{has_word};
 ghost use Rattle.product_template.specs.Bodies.{closed, paragraph, bullet, front_text, back_text, bullets_around, texts_on};
 
-use hazard_types::{Event, EventTexts, Oom, Text, Texts};
+use hazard_types::{Event, Oom, Text};
 use headline_text::wrapped;
+use office_types::{EventTexts, Texts};
 use std::alloc::Global;
 
 /// Whether a text has a character other than a space.

@@ -6,7 +6,8 @@ ghost use Rattle.product_template.specs.Text.{three_letters, heading_of, identif
 use crate::names::title_of;
 use desk_clock::{day_stamp, local_line};
 use desk_settings::Settings;
-use hazard_types::{Class, End, List, Minute, Oom, Plan, SegLine, Segment, Text, Vtec};
+use hazard_types::{Class, End, List, Minute, Oom, SegLine, Segment, Text, Vtec};
+use office_types::Plan;
 use product_frame::{Block, Frame, FrameSegment, Heading, Pair};
 use segmenter::expiry;
 use std::alloc::Global;

@@ -2,10 +2,10 @@
 ghost use Rattle.std.specs.Prelude.{◌≡◌, ℕ, map};
 ghost use Rattle.std.specs.List.{All};
 ghost use Rattle.hazard_types.specs.declared.codes.Class.{Class};
-ghost use Rattle.hazard_types.specs.declared.request.Plan.{Plan};
+ghost use Rattle.office_types.specs.declared.request.Plan.{Plan};
 ghost use Rattle.desk_settings.specs.declared.settings.Settings.{Settings};
 ghost use Rattle.event_life.specs.Printed.{zone_line_of};
-ghost use Rattle.hazard_types.specs.declared.request.Edition.{Edition};
+ghost use Rattle.office_types.specs.declared.request.Edition.{Edition};
 ghost use Rattle.product_frame.specs.Frame.{FrameOf};
 ghost use Rattle.product_frame.specs.LineRules.{ReadsBack};
 ghost use Rattle.product_frame.specs.Splitting.{IsOneProduct};

@@ -3,7 +3,8 @@ ghost use Rattle.std.specs.Prelude.{◌≡◌, ◌+◌, map, length, IfOk};
 ghost use Rattle.product_template.specs.Lengths.{texts_length, told_of, told_on, told_in_lines, told_in_segments};
 
 use crate::bullets::{put_back, put_front};
-use hazard_types::{Event, EventTexts, List, Oom, Plan, SegLine, Segment, Text, Texts};
+use hazard_types::{Event, List, Oom, SegLine, Segment, Text};
+use office_types::{EventTexts, Plan, Texts};
 use std::alloc::Global;
 
 /// How many bytes the bullets of an event's texts have.

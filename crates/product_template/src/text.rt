@@ -1,8 +1,8 @@
 //! The text of a product.
 ghost use Rattle.std.specs.Prelude.{◌≡◌, ◌≤◌, ◌<◌, length, IfOk, Err};
 ghost use Rattle.hazard_types.specs.declared.or.Or.TheVariants.{No};
-ghost use Rattle.hazard_types.specs.declared.refusal.Refusal.{Refusal as Reason};
-ghost use Rattle.hazard_types.specs.declared.refusal.Refusal.TheVariants.{TooLong};
+ghost use Rattle.office_types.specs.declared.refusal.Refusal.{Refusal as Reason};
+ghost use Rattle.office_types.specs.declared.refusal.Refusal.TheVariants.{TooLong};
 ghost use Rattle.product_frame.specs.Frame.{FrameOf};
 ghost use Rattle.product_frame.specs.Splitting.{IsOneProduct};
 ghost use Rattle.std.specs.List.{All};
@@ -13,7 +13,8 @@ use crate::bodies::bodies_of;
 use crate::frame::{block_of, frame_of};
 use crate::lengths::{each_told, may_be_long, more, told_in_segments};
 use desk_settings::Settings;
-use hazard_types::{Class, Edition, EventTexts, Minute, Oom, Or, Plan, Refusal, Text};
+use hazard_types::{Class, Minute, Oom, Or, Text};
+use office_types::{Edition, EventTexts, Plan, Refusal};
 use product_frame::frame_text;
 use std::alloc::Global;
 

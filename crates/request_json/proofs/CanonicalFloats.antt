@@ -12,21 +12,21 @@ use Rattle.hazard_types.specs.declared.period.Begin.{Begin}
 use Rattle.hazard_types.specs.declared.period.Begin.TheVariants as begin
 use Rattle.hazard_types.specs.declared.period.End.{End}
 use Rattle.hazard_types.specs.declared.period.End.TheVariants as end
-use Rattle.hazard_types.specs.declared.request.EventPart.{EventPart}
-use Rattle.hazard_types.specs.declared.request.EventTexts.{EventTexts}
-use Rattle.hazard_types.specs.declared.request.Intent.{Intent}
-use Rattle.hazard_types.specs.declared.request.Intent.TheVariants as intent
-use Rattle.hazard_types.specs.declared.request.PutPart.{PutPart}
-use Rattle.hazard_types.specs.declared.request.Request.{Request}
-use Rattle.hazard_types.specs.declared.request.Request.TheVariants as request
-use Rattle.hazard_types.specs.declared.request.RoutinePart.{RoutinePart}
-use Rattle.hazard_types.specs.declared.request.Target.{Target}
-use Rattle.hazard_types.specs.declared.request.Target.TheVariants as target
-use Rattle.hazard_types.specs.declared.request.Texts.{Texts}
+use Rattle.office_types.specs.declared.request.EventPart.{EventPart}
+use Rattle.office_types.specs.declared.request.EventTexts.{EventTexts}
+use Rattle.office_types.specs.declared.request.Intent.{Intent}
+use Rattle.office_types.specs.declared.request.Intent.TheVariants as intent
+use Rattle.office_types.specs.declared.request.PutPart.{PutPart}
+use Rattle.office_types.specs.declared.request.Request.{Request}
+use Rattle.office_types.specs.declared.request.Request.TheVariants as request
+use Rattle.office_types.specs.declared.request.RoutinePart.{RoutinePart}
+use Rattle.office_types.specs.declared.request.Target.{Target}
+use Rattle.office_types.specs.declared.request.Target.TheVariants as target
+use Rattle.office_types.specs.declared.request.Texts.{Texts}
 use Rattle.hazard_types.specs.Letters.{severity_code, status_code}
 use Rattle.request_json.specs.Canonical.{put_text, put_number, put_source, put_times, put_begin, put_end, zone_data, zone_items, texts_data, flood_data, event_texts_data, event_texts_items, put_flood, put_target, put_zones_texts, put_put, put_event_part, put_routine, put_do, put_draft, put_put_do, put_event_do, put_routine_do, put_intent, intent_data, put_request, asked_members}
 use Rattle.request_json.specs.Replies.{draft_members, intent_items}
-use Rattle.hazard_types.specs.declared.request.Draft.{Draft}
+use Rattle.office_types.specs.declared.request.Draft.{Draft}
 use Rattle.request_json.specs.declared.asked.Asked.{Asked}
 use Rattle.request_json.proofs.Floats.{no_float_put, put_text_no_float, put_number_no_float, mapped_no_float, text_no_float}
 

@@ -9,7 +9,7 @@ use Rattle.json.proofs.Printed.Utf8.{are_ascii, IsUtf8-are_ascii}
 use Rattle.hazard_types.specs.Calendar.{IsCivil, stamp_of, stamp_text, civil_of}
 use Rattle.hazard_types.specs.Characters.{is_name_byte, is_location}
 use Rattle.hazard_types.specs.Codes.{value_beside, unfilled}
-use Rattle.hazard_types.specs.Desks.{is_desk_name}
+use Rattle.office_types.specs.Desks.{is_desk_name}
 use Rattle.hazard_types.specs.Digits.{three_digits, four_digits, wide}
 use Rattle.hazard_types.specs.Hazards.{hazard_code}
 use Rattle.hazard_types.specs.Names.{category_code, kind_code, zone_text, event_text}

@@ -4,7 +4,7 @@ use Rattle.std.proofs.lemmas.List.{drop_more}
 use Rattle.serde_json.specs.Data.{Data, Items, item}
 use Rattle.serde_json.specs.View.{view, items_view}
 use Rattle.serde_json.specs.declared.value.Value.{Value}
-use Rattle.hazard_types.specs.declared.request.EventTexts.{EventTexts}
+use Rattle.office_types.specs.declared.request.EventTexts.{EventTexts}
 use Rattle.request_json.specs.Fields.{event_texts_of, each_event_texts}
 
 add_last : (done : List EventTexts) (x : EventTexts) (o : Option (List EventTexts)) → option_map (λ (ts : List EventTexts). done ++ ts) (option_map (λ ts. x ∷ ts) o) ≡ option_map (λ (ts : List EventTexts). (done ++ x ∷ []) ++ ts) o

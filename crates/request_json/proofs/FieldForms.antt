@@ -16,7 +16,7 @@ use Rattle.serde_json.specs.Find.{get, get_member, as_str, as_number, as_u64, as
 use Rattle.hazard_types.specs.Calendar.{stamp_at, is_digit}
 use Rattle.hazard_types.specs.Characters.{location_at, is_location}
 use Rattle.hazard_types.specs.Codes.{value_beside, unfilled}
-use Rattle.hazard_types.specs.Desks.{is_desk_name}
+use Rattle.office_types.specs.Desks.{is_desk_name}
 use Rattle.hazard_types.specs.Names.{zone_at, hazard_at, sig_at, four_of, event_if, event_at, number_at as four_at}
 use Rattle.hazard_types.specs.Places.{Place, IsPlace, is_capital}
 use Rattle.hazard_types.specs.Tables.{cause_rows}
@@ -31,8 +31,8 @@ use Rattle.hazard_types.specs.declared.period.Begin.{Begin}
 use Rattle.hazard_types.specs.declared.period.Begin.TheVariants as begin
 use Rattle.hazard_types.specs.declared.period.End.{End}
 use Rattle.hazard_types.specs.declared.period.End.TheVariants as end
-use Rattle.hazard_types.specs.declared.request.EventTexts.{EventTexts}
-use Rattle.hazard_types.specs.declared.request.Texts.{Texts}
+use Rattle.office_types.specs.declared.request.EventTexts.{EventTexts}
+use Rattle.office_types.specs.declared.request.Texts.{Texts}
 use Rattle.hazard_types.specs.Times.{time_at}
 use Rattle.request_json.specs.Fields.{begin_at, end_at, desk_named, if_small, if_counted, number_at, zones_of, site_in, severity_in, cause_in, time_in, status_in, values_in, flood_of, text_or_empty, free_text, four_texts, texts_of, event_texts_of, each_event_texts}
 use Rattle.request_json.specs.Formed.{IsMinute, IsNumber, IsHazard, IsEvent, AreTexts, AreEventTexts, AreFloodValues, IsBegin, IsEnd}

@@ -11,7 +11,7 @@ use Rattle.serde_json.specs.Find.{get, as_str, as_number, as_u64, as_object}
 use Rattle.hazard_types.specs.Calendar.{stamp_of, stamp_at, is_civil}
 use Rattle.hazard_types.specs.Characters.{location_at, is_location}
 use Rattle.hazard_types.specs.Codes.{value_beside}
-use Rattle.hazard_types.specs.Desks.{is_desk_name}
+use Rattle.office_types.specs.Desks.{is_desk_name}
 use Rattle.hazard_types.specs.Hazards.{hazard_code}
 use Rattle.hazard_types.specs.Names.{zone_text, zone_at, event_text, event_at, hazard_at}
 use Rattle.hazard_types.specs.Places.{Place, IsPlace}
@@ -28,8 +28,8 @@ use Rattle.hazard_types.specs.declared.period.Begin.{Begin}
 use Rattle.hazard_types.specs.declared.period.Begin.TheVariants as begin
 use Rattle.hazard_types.specs.declared.period.End.{End}
 use Rattle.hazard_types.specs.declared.period.End.TheVariants as end
-use Rattle.hazard_types.specs.declared.request.EventTexts.{EventTexts}
-use Rattle.hazard_types.specs.declared.request.Texts.{Texts}
+use Rattle.office_types.specs.declared.request.EventTexts.{EventTexts}
+use Rattle.office_types.specs.declared.request.Texts.{Texts}
 use Rattle.hazard_types.proofs.NamesBack.{zone_back, hazard_back, event_back}
 use Rattle.hazard_types.proofs.Stamps.{stamp_spells}
 use Rattle.hazard_types.specs.Letters.{severity_code, status_code}

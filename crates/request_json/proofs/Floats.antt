@@ -6,8 +6,8 @@ use Rattle.std.specs.Ordering.{nat_cmp, match_ordering}
 use Rattle.std.specs.Cmp.Lexicographic.{slice_cmp}
 use Rattle.serde_json.specs.Data.{Data, Members, no_members, member, put, number, unsigned}
 use Rattle.serde_json.specs.Find.{of_integer}
-use Rattle.hazard_types.specs.declared.refusal.Refusal.{Refusal}
-use Rattle.hazard_types.specs.declared.refusal.Refusal.TheVariants as refusal
+use Rattle.office_types.specs.declared.refusal.Refusal.{Refusal}
+use Rattle.office_types.specs.declared.refusal.Refusal.TheVariants as refusal
 use Rattle.request_json.specs.Canonical.{as_text, put_text, put_number}
 use Rattle.request_json.specs.Replies.{label, labelled, put_zone, put_event_zone, put_clash, put_place_in, put_values}
 use Rattle.hazard_types.specs.Calendar.{stamp_of}

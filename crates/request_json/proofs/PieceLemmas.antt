@@ -12,13 +12,13 @@ use Rattle.hazard_types.specs.declared.period.Begin.{Begin}
 use Rattle.hazard_types.specs.declared.period.Begin.TheVariants as begin
 use Rattle.hazard_types.specs.declared.period.End.{End}
 use Rattle.hazard_types.specs.declared.period.End.TheVariants as end
-use Rattle.hazard_types.specs.declared.request.PutPart.{PutPart}
-use Rattle.hazard_types.specs.declared.request.Reply.TheVariants as reply
-use Rattle.hazard_types.specs.declared.request.Request.TheVariants as request
-use Rattle.hazard_types.specs.declared.request.SentReply.{SentReply}
-use Rattle.hazard_types.specs.declared.request.Target.TheVariants as target
-use Rattle.hazard_types.specs.declared.request.Texts.{Texts}
-use Rattle.hazard_types.specs.declared.request.Word.{Word}
+use Rattle.office_types.specs.declared.request.PutPart.{PutPart}
+use Rattle.office_types.specs.declared.request.Reply.TheVariants as reply
+use Rattle.office_types.specs.declared.request.Request.TheVariants as request
+use Rattle.office_types.specs.declared.request.SentReply.{SentReply}
+use Rattle.office_types.specs.declared.request.Target.TheVariants as target
+use Rattle.office_types.specs.declared.request.Texts.{Texts}
+use Rattle.office_types.specs.declared.request.Word.{Word}
 use Rattle.request_json.specs.Canonical.{as_text, texts_data, put_put, put_request, asked_members, asked_text}
 use Rattle.request_json.specs.Replies.{put_reply, reply_text, word_code}
 use Rattle.request_json.specs.Pieces.{is_plain, string_text, whole_text, zones_text, events_text, texts_text, begin_bytes, end_bytes, area_details, impacts_what, begin_desk, do_end, hazard_seq, texts_zones, draft_ok, place_end, events_ok, product_time}

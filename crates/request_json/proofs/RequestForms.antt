@@ -17,17 +17,17 @@ use Rattle.hazard_types.specs.declared.line.Flood.{Flood}
 use Rattle.hazard_types.specs.declared.or.Or.{Or}
 use Rattle.hazard_types.specs.declared.period.Begin.{Begin}
 use Rattle.hazard_types.specs.declared.period.End.{End}
-use Rattle.hazard_types.specs.declared.refusal.Refusal.{Refusal}
-use Rattle.hazard_types.specs.declared.refusal.Refusal.TheVariants.{WrongShape}
-use Rattle.hazard_types.specs.declared.request.EventPart.{EventPart}
-use Rattle.hazard_types.specs.declared.request.EventTexts.{EventTexts}
-use Rattle.hazard_types.specs.declared.request.PutPart.{PutPart}
-use Rattle.hazard_types.specs.declared.request.Request.{Request}
-use Rattle.hazard_types.specs.declared.request.Request.TheVariants as request
-use Rattle.hazard_types.specs.declared.request.RoutinePart.{RoutinePart}
-use Rattle.hazard_types.specs.declared.request.Target.{Target}
-use Rattle.hazard_types.specs.declared.request.Target.TheVariants as target
-use Rattle.hazard_types.specs.declared.request.Texts.{Texts}
+use Rattle.office_types.specs.declared.refusal.Refusal.{Refusal}
+use Rattle.office_types.specs.declared.refusal.Refusal.TheVariants.{WrongShape}
+use Rattle.office_types.specs.declared.request.EventPart.{EventPart}
+use Rattle.office_types.specs.declared.request.EventTexts.{EventTexts}
+use Rattle.office_types.specs.declared.request.PutPart.{PutPart}
+use Rattle.office_types.specs.declared.request.Request.{Request}
+use Rattle.office_types.specs.declared.request.Request.TheVariants as request
+use Rattle.office_types.specs.declared.request.RoutinePart.{RoutinePart}
+use Rattle.office_types.specs.declared.request.Target.{Target}
+use Rattle.office_types.specs.declared.request.Target.TheVariants as target
+use Rattle.office_types.specs.declared.request.Texts.{Texts}
 use Rattle.request_json.specs.Fields.{begin_at, end_at, desk_named, if_counted, number_at, zones_of, flood_of, each_event_texts}
 use Rattle.request_json.specs.Form.{given, desk_field, seq_field, verb_field, category_field, number_field, hazard_field, event_field, zones_field, begin_field, end_field, flood_or_none, flood_field, no_texts, texts_or_empty, texts_field, event_texts_or_none, event_texts_field, target_beside, target_field, put_on, issue_part, put_part, event_part, routine_part, draft_in, draft_request, request_in, asked_in, is_issue, training_issue_in}
 use Rattle.request_json.specs.Formed.{IsNumber, IsHazard, IsEvent, AreTexts, AreEventTexts, AreFloodValues, IsBegin, IsEnd, IsTarget, IsFresh, IsPutPart, IsIssuePart, IsEventPart, IsRoutinePart, HasRequestForm, HasForm}

@@ -21,16 +21,16 @@ use Rattle.hazard_types.specs.declared.period.Begin.{Begin}
 use Rattle.hazard_types.specs.declared.period.Begin.TheVariants as begin
 use Rattle.hazard_types.specs.declared.period.End.{End}
 use Rattle.hazard_types.specs.declared.period.End.TheVariants as end
-use Rattle.hazard_types.specs.declared.refusal.Refusal.{Refusal}
-use Rattle.hazard_types.specs.declared.request.EventPart.{EventPart}
-use Rattle.hazard_types.specs.declared.request.EventTexts.{EventTexts}
-use Rattle.hazard_types.specs.declared.request.PutPart.{PutPart}
-use Rattle.hazard_types.specs.declared.request.Request.{Request}
-use Rattle.hazard_types.specs.declared.request.Request.TheVariants as request
-use Rattle.hazard_types.specs.declared.request.RoutinePart.{RoutinePart}
-use Rattle.hazard_types.specs.declared.request.Target.{Target}
-use Rattle.hazard_types.specs.declared.request.Target.TheVariants as target
-use Rattle.hazard_types.specs.declared.request.Texts.{Texts}
+use Rattle.office_types.specs.declared.refusal.Refusal.{Refusal}
+use Rattle.office_types.specs.declared.request.EventPart.{EventPart}
+use Rattle.office_types.specs.declared.request.EventTexts.{EventTexts}
+use Rattle.office_types.specs.declared.request.PutPart.{PutPart}
+use Rattle.office_types.specs.declared.request.Request.{Request}
+use Rattle.office_types.specs.declared.request.Request.TheVariants as request
+use Rattle.office_types.specs.declared.request.RoutinePart.{RoutinePart}
+use Rattle.office_types.specs.declared.request.Target.{Target}
+use Rattle.office_types.specs.declared.request.Target.TheVariants as target
+use Rattle.office_types.specs.declared.request.Texts.{Texts}
 use Rattle.hazard_types.proofs.NamesBack.{category_back}
 use Rattle.request_json.specs.Canonical.{as_text, put_text, zone_items, texts_data, flood_data, event_texts_items, put_begin, put_end, put_flood, put_target, put_zones_texts, put_put, put_event_part, put_routine, put_do, put_draft, put_request, asked_members, asked_text}
 use Rattle.request_json.specs.Fields.{begin_at, end_at, desk_named, if_counted, zones_of}

@@ -6,7 +6,7 @@ use Rattle.serde_json.specs.Find.{get, as_str, as_number, as_u64, as_object}
 use Rattle.hazard_types.specs.Calendar.{stamp_at}
 use Rattle.hazard_types.specs.Characters.{location_at}
 use Rattle.hazard_types.specs.Codes.{value_beside}
-use Rattle.hazard_types.specs.Desks.{is_desk_name}
+use Rattle.office_types.specs.Desks.{is_desk_name}
 use Rattle.hazard_types.specs.Names.{zone_at, event_at}
 use Rattle.hazard_types.specs.Places.{Place}
 use Rattle.hazard_types.specs.Times.{time_at}
@@ -18,8 +18,8 @@ use Rattle.hazard_types.specs.declared.period.Begin.{Begin}
 use Rattle.hazard_types.specs.declared.period.Begin.TheVariants as begin
 use Rattle.hazard_types.specs.declared.period.End.{End}
 use Rattle.hazard_types.specs.declared.period.End.TheVariants as end
-use Rattle.hazard_types.specs.declared.request.EventTexts.{EventTexts}
-use Rattle.hazard_types.specs.declared.request.Texts.{Texts}
+use Rattle.office_types.specs.declared.request.EventTexts.{EventTexts}
+use Rattle.office_types.specs.declared.request.Texts.{Texts}
 use Rattle.request_json.specs.Json.{text_at}
 use Rattle.request_json.specs.Keys.{all_known}
 use Rattle.request_json.specs.declared.keys.Keys.TheVariants as keys

@@ -16,17 +16,17 @@ use Rattle.hazard_types.specs.declared.hazard.Hazard.{Hazard}
 use Rattle.hazard_types.specs.declared.line.Flood.{Flood}
 use Rattle.hazard_types.specs.declared.period.Begin.{Begin}
 use Rattle.hazard_types.specs.declared.period.End.{End}
-use Rattle.hazard_types.specs.declared.refusal.Refusal.{Refusal}
-use Rattle.hazard_types.specs.declared.refusal.Refusal.TheVariants.{NotJson, WrongShape}
-use Rattle.hazard_types.specs.declared.request.EventPart.{EventPart}
-use Rattle.hazard_types.specs.declared.request.EventTexts.{EventTexts}
-use Rattle.hazard_types.specs.declared.request.PutPart.{PutPart}
-use Rattle.hazard_types.specs.declared.request.Request.{Request}
-use Rattle.hazard_types.specs.declared.request.Request.TheVariants as request
-use Rattle.hazard_types.specs.declared.request.RoutinePart.{RoutinePart}
-use Rattle.hazard_types.specs.declared.request.Target.{Target}
-use Rattle.hazard_types.specs.declared.request.Target.TheVariants as target
-use Rattle.hazard_types.specs.declared.request.Texts.{Texts}
+use Rattle.office_types.specs.declared.refusal.Refusal.{Refusal}
+use Rattle.office_types.specs.declared.refusal.Refusal.TheVariants.{NotJson, WrongShape}
+use Rattle.office_types.specs.declared.request.EventPart.{EventPart}
+use Rattle.office_types.specs.declared.request.EventTexts.{EventTexts}
+use Rattle.office_types.specs.declared.request.PutPart.{PutPart}
+use Rattle.office_types.specs.declared.request.Request.{Request}
+use Rattle.office_types.specs.declared.request.Request.TheVariants as request
+use Rattle.office_types.specs.declared.request.RoutinePart.{RoutinePart}
+use Rattle.office_types.specs.declared.request.Target.{Target}
+use Rattle.office_types.specs.declared.request.Target.TheVariants as target
+use Rattle.office_types.specs.declared.request.Texts.{Texts}
 use Rattle.request_json.specs.Fields.{begin_at, end_at, desk_named, number_at, if_counted, zones_of, flood_of, texts_of, each_event_texts}
 use Rattle.request_json.specs.Json.{json_of, text_at}
 use Rattle.request_json.specs.Keys.{verb_at, keys_of, all_known}

@@ -3,7 +3,7 @@ use Rattle.std.specs.Prelude.{◌≡◌, ◌<◌, ◌≤◌, ◌^◌, ℕ, IsTru
 use Rattle.std.specs.List.{All}
 use Rattle.hazard_types.specs.Characters.{is_location}
 use Rattle.hazard_types.specs.Codes.{value_beside}
-use Rattle.hazard_types.specs.Desks.{is_desk_name}
+use Rattle.office_types.specs.Desks.{is_desk_name}
 use Rattle.hazard_types.specs.Places.{IsPlace, are_letters}
 use Rattle.hazard_types.specs.Tables.{cause_rows}
 use Rattle.hazard_types.specs.declared.hazard.Event.{Event}
@@ -13,15 +13,15 @@ use Rattle.hazard_types.specs.declared.period.Begin.{Begin}
 use Rattle.hazard_types.specs.declared.period.Begin.TheVariants as begin
 use Rattle.hazard_types.specs.declared.period.End.{End}
 use Rattle.hazard_types.specs.declared.period.End.TheVariants as end
-use Rattle.hazard_types.specs.declared.request.EventPart.{EventPart}
-use Rattle.hazard_types.specs.declared.request.EventTexts.{EventTexts}
-use Rattle.hazard_types.specs.declared.request.PutPart.{PutPart}
-use Rattle.hazard_types.specs.declared.request.Request.{Request}
-use Rattle.hazard_types.specs.declared.request.Request.TheVariants as request
-use Rattle.hazard_types.specs.declared.request.RoutinePart.{RoutinePart}
-use Rattle.hazard_types.specs.declared.request.Target.{Target}
-use Rattle.hazard_types.specs.declared.request.Target.TheVariants as target
-use Rattle.hazard_types.specs.declared.request.Texts.{Texts}
+use Rattle.office_types.specs.declared.request.EventPart.{EventPart}
+use Rattle.office_types.specs.declared.request.EventTexts.{EventTexts}
+use Rattle.office_types.specs.declared.request.PutPart.{PutPart}
+use Rattle.office_types.specs.declared.request.Request.{Request}
+use Rattle.office_types.specs.declared.request.Request.TheVariants as request
+use Rattle.office_types.specs.declared.request.RoutinePart.{RoutinePart}
+use Rattle.office_types.specs.declared.request.Target.{Target}
+use Rattle.office_types.specs.declared.request.Target.TheVariants as target
+use Rattle.office_types.specs.declared.request.Texts.{Texts}
 use Rattle.request_json.specs.declared.asked.Asked.{Asked}
 
 -- a minute of 2000 to 2099

@@ -11,7 +11,7 @@ use Rattle.hazard_types.specs.declared.period.Begin.{Begin}
 use Rattle.hazard_types.specs.declared.period.Begin.TheVariants as begin
 use Rattle.hazard_types.specs.declared.period.End.{End}
 use Rattle.hazard_types.specs.declared.period.End.TheVariants as end
-use Rattle.hazard_types.specs.declared.request.Texts.{Texts}
+use Rattle.office_types.specs.declared.request.Texts.{Texts}
 use Rattle.request_json.specs.Canonical.{as_text, texts_data, zone_items}
 use Rattle.request_json.specs.Replies.{event_items}
 

@@ -9,16 +9,16 @@ use Rattle.hazard_types.specs.Hazards.{hazard_code}
 use Rattle.hazard_types.specs.Names.{category_code, zone_text, event_text}
 use Rattle.hazard_types.specs.Places.{Place}
 use Rattle.hazard_types.specs.declared.hazard.Event.{Event}
-use Rattle.hazard_types.specs.Refusals.{label as refusal_label}
-use Rattle.hazard_types.specs.declared.refusal.Refusal.{Refusal}
-use Rattle.hazard_types.specs.declared.refusal.Refusal.TheVariants as refusal
-use Rattle.hazard_types.specs.declared.request.Draft.{Draft}
-use Rattle.hazard_types.specs.declared.request.Intent.{Intent}
-use Rattle.hazard_types.specs.declared.request.Reply.{Reply}
-use Rattle.hazard_types.specs.declared.request.Reply.TheVariants as reply
-use Rattle.hazard_types.specs.declared.request.SentReply.{SentReply}
-use Rattle.hazard_types.specs.declared.request.Word.{Word}
-use Rattle.hazard_types.specs.declared.request.Word.TheVariants as word
+use Rattle.office_types.specs.Refusals.{label as refusal_label}
+use Rattle.office_types.specs.declared.refusal.Refusal.{Refusal}
+use Rattle.office_types.specs.declared.refusal.Refusal.TheVariants as refusal
+use Rattle.office_types.specs.declared.request.Draft.{Draft}
+use Rattle.office_types.specs.declared.request.Intent.{Intent}
+use Rattle.office_types.specs.declared.request.Reply.{Reply}
+use Rattle.office_types.specs.declared.request.Reply.TheVariants as reply
+use Rattle.office_types.specs.declared.request.SentReply.{SentReply}
+use Rattle.office_types.specs.declared.request.Word.{Word}
+use Rattle.office_types.specs.declared.request.Word.TheVariants as word
 use Rattle.request_json.specs.Canonical.{as_text, put_text, put_number, intent_data}
 
 -- ---- refusals

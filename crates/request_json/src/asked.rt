@@ -1,5 +1,5 @@
 //! A request with its desk and number.
-use hazard_types::{Desk, Request};
+use office_types::{Desk, Request};
 
 /// A request, with the desk that sends it and the number that the desk gives it.
 ///

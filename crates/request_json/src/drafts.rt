@@ -6,7 +6,8 @@ ghost use Rattle.request_json.specs.Replies.{draft_members, draft_text};
 
 use crate::canonical::intent_value;
 use crate::members::{Members, put, put_number, put_text, text_of_members};
-use hazard_types::{Draft, Intent, Oom, Text, stamp};
+use hazard_types::{Oom, Text, stamp};
+use office_types::{Draft, Intent};
 use serde_json::{Map, Value};
 use std::alloc::Global;
 

@@ -10,9 +10,10 @@ ghost use Rattle.request_json.specs.Fields.{begin_at, end_at, desk_named, if_cou
 
 use crate::keys::Keys;
 use hazard_types::{
-    Begin, Cause, Desk, End, Event, EventTexts, Flood, List, Minute, Oom, Severity, Status, Text,
-    Texts, Zone, event_in, find, location_in, read_stamp, written_causes, zone_in,
+    Begin, Cause, End, Event, Flood, List, Minute, Oom, Severity, Status, Text, Zone, event_in,
+    find, location_in, read_stamp, written_causes, zone_in,
 };
+use office_types::{Desk, EventTexts, Texts};
 use serde_json::Value;
 use std::alloc::Global;
 

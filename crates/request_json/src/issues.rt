@@ -1,14 +1,13 @@
 //! The canonical text of an issue without H-VTEC values, written piece by piece.
 ghost use Rattle.std.specs.Prelude.{◌≡◌, ◌++◌, None, IfOk, IfSome, OnOk};
-ghost use Rattle.hazard_types.specs.declared.request.Request.TheVariants.{Issue};
-ghost use Rattle.hazard_types.specs.declared.request.Target.TheVariants.{Fresh};
+ghost use Rattle.office_types.specs.declared.request.Request.TheVariants.{Issue};
+ghost use Rattle.office_types.specs.declared.request.Target.TheVariants.{Fresh};
 ghost use Rattle.request_json.specs.Canonical.{asked_text};
 ghost use Rattle.request_json.specs.Pieces.{begin_bytes, end_bytes, string_text, begin_desk, do_end, hazard_seq, texts_zones};
 
 use crate::pieces::{put_string, put_texts, put_whole, put_zones};
-use hazard_types::{
-    Begin, Desk, End, Hazard, Oom, PutPart, Target, Text, Texts, Zone, hazard_text, stamp,
-};
+use hazard_types::{Begin, End, Hazard, Oom, Text, Zone, hazard_text, stamp};
+use office_types::{Desk, PutPart, Target, Texts};
 use std::alloc::Global;
 
 /// The bytes that are reserved for all but the zones and the texts.

@@ -6,8 +6,9 @@ ghost use Rattle.hazard_types.specs.Names.{event_text};
 ghost use Rattle.request_json.specs.Pieces.{is_plain, string_text, whole_text, zones_text, events_text, texts_text, area_details, impacts_what};
 
 use crate::members::text_value;
-use hazard_types::{Event, Oom, Text, Texts, Zone, put_event, zone_text};
+use hazard_types::{Event, Oom, Text, Zone, put_event, zone_text};
 use itoa::Buffer;
+use office_types::Texts;
 use std::alloc::Global;
 
 /// Whether JSON strings have the byte as it is: a printable one, but no quote and no backslash.

@@ -6,9 +6,8 @@ ghost use Rattle.request_json.specs.Canonical.{put_text};
 ghost use Rattle.request_json.specs.Replies.{label, labelled, put_zone, put_event_zone, put_clash, put_place_in, put_values, refusal_text};
 
 use crate::members::{Members, put_number, put_signed, put_size, put_text, text_of_members};
-use hazard_types::{
-    Event, List, Oom, Refusal, Text, Zone, hazard_text, put_event, stamp, zone_text,
-};
+use hazard_types::{Event, List, Oom, Text, Zone, hazard_text, put_event, stamp, zone_text};
+use office_types::Refusal;
 use serde_json::Map;
 use std::alloc::Global;
 

@@ -1,11 +1,12 @@
 //! The texts of replies.
 ghost use Rattle.std.specs.Prelude.{◌≡◌, ◌++◌, IfOk, OnOk};
-ghost use Rattle.hazard_types.specs.declared.request.Reply.TheVariants.{Draft, Placed, Sent};
+ghost use Rattle.office_types.specs.declared.request.Reply.TheVariants.{Draft, Placed, Sent};
 ghost use Rattle.request_json.specs.Pieces.{draft_ok, place_end, events_ok, product_time};
 ghost use Rattle.request_json.specs.Replies.{word_code, reply_text, disk_fault_text, out_of_memory_text};
 
 use crate::pieces::{put_events, put_string, put_whole};
-use hazard_types::{Event, Minute, Oom, Reply, SentReply, Text, Word, stamp};
+use hazard_types::{Event, Minute, Oom, Text, stamp};
+use office_types::{Reply, SentReply, Word};
 use std::alloc::Global;
 
 /// The bytes that are reserved for the text of a reply. Most texts need no more.

@@ -4,7 +4,7 @@ ghost use Rattle.hazard_types.specs.Codes.{value_beside};
 ghost use Rattle.hazard_types.specs.Given.{Gives};
 ghost use Rattle.hazard_types.specs.Names.{hazard_at};
 ghost use Rattle.hazard_types.specs.Tables.{category_rows};
-ghost use Rattle.hazard_types.specs.declared.refusal.Refusal.{Refusal as Refused};
+ghost use Rattle.office_types.specs.declared.refusal.Refusal.{Refusal as Refused};
 ghost use Rattle.serde_json.specs.Find.{get};
 ghost use Rattle.serde_json.specs.View.{view, members_view};
 ghost use Rattle.request_json.specs.Json.{json_of, text_at};
@@ -18,9 +18,9 @@ use crate::fields::{
     texts_of, zones_at,
 };
 use crate::keys::{Keys, Verb};
-use hazard_types::{
-    Begin, Category, Desk, End, Event, EventPart, EventTexts, Flood, Hazard, List, Oom, Or,
-    PutPart, Refusal, Request, RoutinePart, Target, Texts, Zone, hazard_in,
+use hazard_types::{Begin, Category, End, Event, Flood, Hazard, List, Oom, Or, Zone, hazard_in};
+use office_types::{
+    Desk, EventPart, EventTexts, PutPart, Refusal, Request, RoutinePart, Target, Texts,
 };
 use serde_json::{Map, Value};
 use std::alloc::Global;

@@ -6,8 +6,8 @@ use Rattle.httparse.specs.Grammar.{RequestHead, print_request, ReadsRequest, Has
 use Rattle.httparse.specs.Spans.{IsRequestAt, span_bytes, header_bytes, name_and_value}
 use Rattle.httparse.specs.declared.spans.HeaderSpan.{HeaderSpan}
 use Rattle.httparse.specs.declared.spans.RequestSpans.{RequestSpans}
-use Rattle.hazard_types.specs.declared.refusal.Refusal.{Refusal}
-use Rattle.hazard_types.specs.declared.refusal.Refusal.TheVariants.{BadHead, HeadTooLong}
+use Rattle.office_types.specs.declared.refusal.Refusal.{Refusal}
+use Rattle.office_types.specs.declared.refusal.Refusal.TheVariants.{BadHead, HeadTooLong}
 use Rattle.warn_http.specs.Heads.{Pair, most_bytes, most_fields, IsHead, IsBadHead, IsTooLong, IsCutHead}
 use Rattle.warn_http.specs.Wants.{wanted, wanted_by}
 use Rattle.warn_http.specs.Calls.{Called, called, as_read, IsCall, IsRefused, IsCutBody, IsUnfinished, Causes, LiesIn, IsWithin, call_at, posted_in, IsAnswer, RefusedOr, MoreOr}

@@ -6,7 +6,7 @@ use Rattle.std.proofs.lemmas.List.{take-append-drop, take-append-le, take_all}
 use Rattle.std.proofs.Math.Seq.{take-append-add}
 use Rattle.httparse.specs.Grammar.{RequestHead, ReadsRequest, HasNoRequest, NeverHasRequest}
 use Rattle.httparse.proofs.GrammarLemmas.{request_unique, ReadsRequest-append}
-use Rattle.hazard_types.specs.declared.refusal.Refusal.TheVariants.{BadHead}
+use Rattle.office_types.specs.declared.refusal.Refusal.TheVariants.{BadHead}
 use Rattle.warn_http.specs.Heads.{fields_of, stated, most_bytes, most_fields, IsHead, IsBadHead, IsTooLong}
 use Rattle.warn_http.specs.Wants.{wanted, wanted_by}
 use Rattle.warn_http.specs.declared.fields.Stated.TheVariants.{Wrong}

@@ -7,8 +7,8 @@ use Rattle.httparse.specs.Grammar.{RequestHead, print_request, ReadsRequest}
 use Rattle.httparse.specs.Spans.{IsRequestAt}
 use Rattle.httparse.specs.declared.spans.HeaderSpan.{HeaderSpan}
 use Rattle.httparse.specs.declared.spans.RequestSpans.{RequestSpans}
-use Rattle.hazard_types.specs.declared.refusal.Refusal.{Refusal}
-use Rattle.hazard_types.specs.declared.refusal.Refusal.TheVariants.{WrongMethod}
+use Rattle.office_types.specs.declared.refusal.Refusal.{Refusal}
+use Rattle.office_types.specs.declared.refusal.Refusal.TheVariants.{WrongMethod}
 use Rattle.warn_http.specs.Numbers.{are_digits, number_from, at_most, number_of}
 use Rattle.warn_http.specs.Heads.{Pair, fields_of, most_body, most_bytes, length_by, length_in, stated, IsHead, IsCutHead}
 use Rattle.warn_http.specs.Wants.{sized, framed, with_method, judged, wanted, wanted_by}

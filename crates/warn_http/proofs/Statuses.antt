@@ -1,9 +1,9 @@
 -- Each refusal has a status of the desk.
 use Rattle.std.proofs.Common.{refl}
 use Rattle.std.specs.Prelude.{IsTrue}
-use Rattle.hazard_types.specs.Refusals.{label}
-use Rattle.hazard_types.specs.declared.refusal.Refusal.{Refusal}
-use Rattle.hazard_types.specs.declared.refusal.Refusal.TheVariants as refusal
+use Rattle.office_types.specs.Refusals.{label}
+use Rattle.office_types.specs.declared.refusal.Refusal.{Refusal}
+use Rattle.office_types.specs.declared.refusal.Refusal.TheVariants as refusal
 use Rattle.warn_http.specs.Answers.{is_status, status_of}
 
 pub refusals_have_statuses : (r : Refusal) → IsTrue (is_status (status_of r))

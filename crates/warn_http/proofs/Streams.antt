@@ -2,8 +2,8 @@
 use Rattle.std.proofs.Common.{◌≡◌, ℕ, ◌+◌, ◌<◌, ◌≤◌, ◌⊎◌, inl, inr, true, false, List, [], ◌∷◌, ◌++◌, length, take, drop, refl, ap, sym, ◌∙◌, subst, ◌-◌, arith, length-append, length-drop}
 use Rattle.std.proofs.lemmas.List.{drop-append-le, take-append-le}
 use Rattle.httparse.specs.Grammar.{print_request}
-use Rattle.hazard_types.specs.declared.refusal.Refusal.{Refusal}
-use Rattle.hazard_types.specs.declared.refusal.Refusal.TheVariants.{BadHead, HeadTooLong}
+use Rattle.office_types.specs.declared.refusal.Refusal.{Refusal}
+use Rattle.office_types.specs.declared.refusal.Refusal.TheVariants.{BadHead, HeadTooLong}
 use Rattle.warn_http.specs.Heads.{IsBadHead, IsTooLong}
 use Rattle.warn_http.specs.Calls.{Called, IsCall, IsRefused, called, call_at, posted_in, IsCut, most_calls, Stop, refused, closed, spent, left, EndsAs, AreCalls, IsFinal, AreAlike}
 use Rattle.warn_http.specs.declared.routes.Aim.{Aim}

@@ -12,8 +12,8 @@ use Rattle.matchit.specs.Rows.{RowsOf, param_token}
 use Rattle.matchit.specs.Router.{RouteOf}
 use Rattle.matchit.specs.Seek.{seek, first, step, has_slash}
 use Rattle.hazard_types.specs.Calendar.{is_digit}
-use Rattle.hazard_types.specs.declared.request.Query.{Query}
-use Rattle.hazard_types.specs.declared.request.Query.TheVariants.{Board, Product, After, Draft, Preview}
+use Rattle.office_types.specs.declared.request.Query.{Query}
+use Rattle.office_types.specs.declared.request.Query.TheVariants.{Board, Product, After, Draft, Preview}
 use Rattle.warn_http.specs.Numbers.{are_digits, at_most, number_from, number_of}
 use Rattle.warn_http.specs.declared.numbers.Number.{Number}
 use Rattle.warn_http.specs.declared.numbers.Number.TheVariants.{NoNumber, TooLarge, Is}

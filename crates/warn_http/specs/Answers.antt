@@ -2,8 +2,8 @@
 use Rattle.std.specs.Prelude.{ℕ, ◌==◌, Bool, true, false, List, [], ◌∷◌, ◌++◌, length, codes, decimal, Option, Some, None}
 use Rattle.std.specs.List.{list_any}
 use Rattle.http.specs.StatusCode.{reason_phrase}
-use Rattle.hazard_types.specs.Refusals.{label}
-use Rattle.hazard_types.specs.declared.refusal.Refusal.{Refusal}
+use Rattle.office_types.specs.Refusals.{label}
+use Rattle.office_types.specs.declared.refusal.Refusal.{Refusal}
 use Rattle.warn_http.specs.declared.answers.BodyKind.{BodyKind}
 use Rattle.warn_http.specs.declared.answers.BodyKind.TheVariants.{Json, Plain}
 

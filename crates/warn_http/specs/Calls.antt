@@ -1,8 +1,8 @@
 -- The calls of a byte stream. How the bytes were cut in reading is no part of them.
 use Rattle.std.specs.Prelude.{◌≡◌, ◌≤◌, ◌<◌, ◌+◌, ◌-◌, ◌⊎◌, ◌++◌, ℕ, Bool, true, false, List, [], ◌∷◌, length, take, drop, Ok, Err, ⊤}
 use Rattle.httparse.specs.Grammar.{RequestHead, print_request, EndsInTarget}
-use Rattle.hazard_types.specs.declared.refusal.Refusal.{Refusal}
-use Rattle.hazard_types.specs.declared.refusal.Refusal.TheVariants.{BadHead, HeadTooLong}
+use Rattle.office_types.specs.declared.refusal.Refusal.{Refusal}
+use Rattle.office_types.specs.declared.refusal.Refusal.TheVariants.{BadHead, HeadTooLong}
 use Rattle.warn_http.specs.Heads.{IsHead, IsBadHead, IsTooLong, IsCutHead}
 use Rattle.warn_http.specs.Wants.{wanted_by}
 use Rattle.warn_http.specs.declared.routes.Aim.{Aim}

@@ -1,7 +1,7 @@
 -- What becomes of a call, and the answer to it.
 use Rattle.std.specs.Prelude.{ℕ, Bool, List, codes}
-use Rattle.hazard_types.specs.declared.request.Query.{Query}
-use Rattle.hazard_types.specs.declared.request.Query.TheVariants.{Board, Product, After, Draft, Preview}
+use Rattle.office_types.specs.declared.request.Query.{Query}
+use Rattle.office_types.specs.declared.request.Query.TheVariants.{Board, Product, After, Draft, Preview}
 use Rattle.warn_http.specs.Answers.{status_of, answer_text}
 use Rattle.warn_http.specs.declared.answers.BodyKind.{BodyKind}
 use Rattle.warn_http.specs.declared.answers.BodyKind.TheVariants.{Json, Plain}

@@ -4,7 +4,7 @@ use Rattle.httparse.specs.Grammar.{RequestHead, ReadsRequest, HasNoRequest, Neve
 use Rattle.httparse.specs.Spans.{IsRequestOf, IsRequestWithin, header_bytes, span_bytes}
 use Rattle.httparse.specs.declared.spans.HeaderSpan.{HeaderSpan}
 use Rattle.httparse.specs.declared.spans.RequestSpans.{RequestSpans}
-use Rattle.hazard_types.specs.declared.refusal.Refusal.{Refusal}
+use Rattle.office_types.specs.declared.refusal.Refusal.{Refusal}
 use Rattle.warn_http.specs.Heads.{Pair, most_bytes, most_fields}
 use Rattle.warn_http.specs.Wants.{wanted}
 use Rattle.warn_http.specs.Calls.{call_at}

@@ -2,8 +2,8 @@
 use Rattle.std.specs.Prelude.{ℕ, Bool, true, false, List, codes, Option, Some, None, Result, Ok, Err, if◌then◌else◌}
 use Rattle.std.specs.Str.{bytes_eq}
 use Rattle.httparse.specs.Grammar.{RequestHead}
-use Rattle.hazard_types.specs.declared.refusal.Refusal.{Refusal}
-use Rattle.hazard_types.specs.declared.refusal.Refusal.TheVariants.{BadHead, NoRoute, WrongMethod, NoLength, BodyTooLong}
+use Rattle.office_types.specs.declared.refusal.Refusal.{Refusal}
+use Rattle.office_types.specs.declared.refusal.Refusal.TheVariants.{BadHead, NoRoute, WrongMethod, NoLength, BodyTooLong}
 use Rattle.warn_http.specs.Heads.{Pair, fields_of, has_field, stated, closes}
 use Rattle.warn_http.specs.Routes.{aim_of, method_of}
 use Rattle.warn_http.specs.declared.fields.Stated.{Stated}

@@ -2,8 +2,9 @@
 ghost use Rattle.std.specs.Prelude.{◌≡◌, ◌++◌, IsTrue, IfOk, OnOk};
 ghost use Rattle.warn_http.specs.Answers.{is_status, status_of, phrase_of, closing, status_line, type_line, length_line, answer_text};
 
-use hazard_types::{List, Oom, Refusal, Text, put_number};
+use hazard_types::{List, Oom, Text, put_number};
 use http::StatusCode;
+use office_types::Refusal;
 use std::alloc::Global;
 
 /// The kind of a body: JSON (`application/json`) or plain text (`text/plain`).

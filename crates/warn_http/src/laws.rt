@@ -1,6 +1,6 @@
 //! Laws of calls and routes. They have no code.
 ghost use Rattle.std.specs.Prelude.{◌≡◌, ◌++◌, ℕ, false, Some, List, [], ◌∷◌, drop, length, ◌<◌};
-ghost use Rattle.hazard_types.specs.declared.refusal.Refusal.{Refusal};
+ghost use Rattle.office_types.specs.declared.refusal.Refusal.{Refusal};
 ghost use Rattle.warn_http.specs.Routes.{aim_of, IsPath};
 ghost use Rattle.warn_http.specs.declared.routes.Aim.{Aim};
 ghost use Rattle.httparse.specs.Grammar.{HasNoRequest};

@@ -4,7 +4,8 @@ ghost use Rattle.warn_http.specs.Answers.{is_status};
 ghost use Rattle.warn_http.specs.Outcomes.{kind_of, outcome_status, outcome_kind, call_answer, disk_fault_json, no_memory_json};
 
 use crate::answers::{BodyKind, refusal_status, write_answer};
-use hazard_types::{Oom, Query, Refusal, Text};
+use hazard_types::{Oom, Text};
+use office_types::{Query, Refusal};
 use std::alloc::Global;
 
 /// What becomes of a call.

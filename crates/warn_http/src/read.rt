@@ -11,8 +11,9 @@ use crate::heads::{Head, MOST_BYTES, MOST_FIELDS, read_head, whole_head};
 use crate::routes::Aim;
 use crate::table::Routes;
 use crate::wants::{Wanted, want_of};
-use hazard_types::{Query, Refusal, Span};
+use hazard_types::Span;
 use httparse::spans::{EMPTY_HEADER_SPAN, HeaderSpan, RequestSpans};
+use office_types::{Query, Refusal};
 use std::alloc::Global;
 
 /// What a call asks for: to post the request in its body, or to look at something.

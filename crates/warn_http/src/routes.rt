@@ -3,8 +3,8 @@ ghost use Rattle.std.specs.Prelude.{◌≡◌, IfOk};
 ghost use Rattle.warn_http.specs.Routes.{desk_routes, number_behind, aim_at, method_of};
 
 use crate::numbers::{Number, number_of};
-use hazard_types::Query;
 use matchit::{InsertError, Router};
+use office_types::Query;
 use std::alloc::Global;
 
 /// A route of the table.

@@ -7,8 +7,8 @@ ghost use Rattle.warn_http.specs.Readings.{wanted_at};
 use crate::fields::{Stated, closes, has_field, stated_length};
 use crate::routes::{Aim, method_of};
 use crate::table::Routes;
-use hazard_types::Refusal;
 use httparse::spans::{HeaderSpan, RequestSpans};
+use office_types::Refusal;
 use std::str;
 
 /// What a head asks for, the bytes of its body, and whether the link closes after the call.

@@ -1,8 +1,8 @@
 -- An answer for which memory may lack is one of a turn in which nothing happened that the pass could call its own.
 use Rattle.std.proofs.Common.{ℤ, ◌≡◌, ◌∙◌, inl, inr, List, [], ◌∷◌, length, ap, sym, arith, length-append, ℕ, OnErr, Result, Ok, Err}
 use Rattle.hazard_types.specs.declared.or.Or.{Or}
-use Rattle.hazard_types.specs.declared.refusal.Refusal.{Refusal}
-use Rattle.hazard_types.specs.declared.request.Query.{Query}
+use Rattle.office_types.specs.declared.refusal.Refusal.{Refusal}
+use Rattle.office_types.specs.declared.request.Query.{Query}
 use Rattle.request_json.specs.declared.asked.Asked.{Asked}
 use Rattle.office_journal.specs.declared.answers.Answer.{Answer}
 use Rattle.office_journal.specs.declared.answers.Answer.TheVariants.{Accepted, Repeated, Refused, DiskFault, OutOfMemory}

@@ -5,7 +5,7 @@ use Rattle.byte_streams.specs.Flows.{Inflow, Outflow}
 use Rattle.desk_links.specs.Links.{LinkState}
 use Rattle.desk_traits.specs.Faults.{Rose}
 use Rattle.byte_streams.specs.Flows.{Adds, Takes}
-use Rattle.hazard_types.specs.declared.refusal.Refusal.{Refusal}
+use Rattle.office_types.specs.declared.refusal.Refusal.{Refusal}
 use Rattle.warn_http.specs.Calls.{Called, IsCall, IsRefused, LiesIn}
 use Rattle.warn_http.specs.declared.read.Call.{Call}
 use Rattle.warn_http.specs.declared.read.Call.TheVariants.{Post, Look}

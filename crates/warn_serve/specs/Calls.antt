@@ -2,8 +2,8 @@
 use Rattle.std.specs.Prelude.{◌≡◌, ◌⊎◌, ℕ, ℤ, Bool, List, Result, Ok, Err}
 use mathlib.Core.List.{IsPrefix}
 use Rattle.hazard_types.specs.declared.or.Or.{Or}
-use Rattle.hazard_types.specs.declared.refusal.Refusal.{Refusal}
-use Rattle.hazard_types.specs.declared.request.Query.{Query}
+use Rattle.office_types.specs.declared.refusal.Refusal.{Refusal}
+use Rattle.office_types.specs.declared.request.Query.{Query}
 use Rattle.request_json.specs.Form.{asked_of}
 use Rattle.request_json.specs.declared.asked.Asked.{Asked}
 use Rattle.office_journal.specs.declared.answers.Answer.{Answer}

@@ -1,6 +1,6 @@
 -- Why a link ended, over the bytes that were read of it.
 use Rattle.std.specs.Prelude.{◌≡◌, ◌<◌, ◌⊎◌, ℕ, List, [], length, ⊤}
-use Rattle.hazard_types.specs.declared.refusal.Refusal.TheVariants.{BadHead}
+use Rattle.office_types.specs.declared.refusal.Refusal.TheVariants.{BadHead}
 use Rattle.httparse.specs.Grammar.{EndsInTarget}
 use Rattle.warn_http.specs.Calls.{AreCalls, Called, Stop, refused, closed, spent, left}
 use Rattle.desk_links.specs.Links.{LinkState}

@@ -1,6 +1,6 @@
 -- What is done over a link, whatever answers its calls and whatever that makes of a pass.
 use Rattle.std.specs.Prelude.{◌≡◌, ◌≤◌, ◌<◌, ◌⊎◌, ℕ, true, List, [], ◌∷◌, ◌++◌, length, map}
-use Rattle.hazard_types.specs.declared.refusal.Refusal.{Refusal}
+use Rattle.office_types.specs.declared.refusal.Refusal.{Refusal}
 use mathlib.Core.List.{IsPrefix}
 use Rattle.desk_links.specs.Links.{LinkState, faults_of}
 use Rattle.desk_traits.specs.Faults.{Rose}

@@ -9,8 +9,9 @@ ghost use Rattle.warn_serve.specs.Calls.{AnswersAsked, AnswersPost, IsLooked, Lo
 use crate::answers::{AnswerBytes, look_answer, refused_answer, submit_answer};
 use crate::service::Service;
 use desk_traits::{Clock, Disk};
-use hazard_types::{Oom, Or, Query, Refusal, Text};
+use hazard_types::{Oom, Or, Text};
 use office_turns::{Look, SharedOffice, submit_in_turn};
+use office_types::{Query, Refusal};
 use request_json::{Asked, read_request};
 use std::sync::Wait;
 use turn_lock::Pass;

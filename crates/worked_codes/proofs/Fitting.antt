@@ -10,8 +10,8 @@ use Rattle.hazard_types.specs.declared.codes.Category.{Category}
 use Rattle.hazard_types.specs.declared.codes.Class.{Class}
 use Rattle.hazard_types.specs.declared.line.SegLine.{SegLine}
 use Rattle.hazard_types.specs.declared.line.Segment.{Segment}
-use Rattle.hazard_types.specs.declared.request.EventTexts.{EventTexts}
-use Rattle.hazard_types.specs.declared.request.Texts.{Texts}
+use Rattle.office_types.specs.declared.request.EventTexts.{EventTexts}
+use Rattle.office_types.specs.declared.request.Texts.{Texts}
 use Rattle.desk_settings.specs.AreSettings.{HasForms}
 use Rattle.desk_settings.specs.Looking.{name_beside}
 use Rattle.desk_settings.specs.declared.settings.Settings.{Settings}

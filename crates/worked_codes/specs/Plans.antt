@@ -5,8 +5,8 @@ use Rattle.hazard_types.specs.Places.{Place}
 use Rattle.hazard_types.specs.declared.codes.Category.{Category}
 use Rattle.hazard_types.specs.declared.codes.Class.{Class}
 use Rattle.hazard_types.specs.declared.line.SegLine.{SegLine}
-use Rattle.hazard_types.specs.declared.request.Plan.{Plan}
-use Rattle.hazard_types.specs.declared.request.Texts.{Texts}
+use Rattle.office_types.specs.declared.request.Plan.{Plan}
+use Rattle.office_types.specs.declared.request.Texts.{Texts}
 use Rattle.desk_settings.specs.Looking.{name_beside}
 use Rattle.desk_settings.specs.declared.settings.Settings.{Settings}
 use Rattle.product_template.specs.Bodies.{is_training}

@@ -1,5 +1,6 @@
 //! An example of each refusal, by name.
-use hazard_types::{Desk, Event, Hazard, Kind, List, Minute, Oom, Phen, Refusal, Sig, Text, Zone};
+use hazard_types::{Event, Hazard, Kind, List, Minute, Oom, Phen, Sig, Text, Zone};
+use office_types::{Desk, Refusal};
 use std::alloc::Global;
 
 /// The values that the examples share.

@@ -5,9 +5,9 @@ use Rattle.hazard_types.specs.contracts.codes.CategoryPartialEq.TheImpl as categ
 use Rattle.hazard_types.specs.declared.codes.Category.{Category}
 use Rattle.hazard_types.specs.declared.codes.Category.TheVariants.{Flw, Fls}
 use Rattle.hazard_types.specs.declared.line.Row.{Row}
-use Rattle.hazard_types.specs.declared.request.Intent.{Intent}
-use Rattle.hazard_types.specs.declared.request.Plan.{Plan}
-use Rattle.hazard_types.specs.declared.request.Sent.{Sent}
+use Rattle.office_types.specs.declared.request.Intent.{Intent}
+use Rattle.office_types.specs.declared.request.Plan.{Plan}
+use Rattle.office_types.specs.declared.request.Sent.{Sent}
 use Rattle.event_numbers.specs.declared.Count.{Count}
 use Rattle.segmenter.specs.Said.{IsApart}
 use Rattle.action_planner.specs.Conditions.{MayHold}

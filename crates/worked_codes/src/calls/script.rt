@@ -1,7 +1,8 @@
 //! The lines of calls: `read BYTES` and `stream BYTES` read calls, `answer STATUS KIND LAST BODY`
 //! writes an answer, `status NAME` gives the HTTP status of a refusal.
 use crate::calls::bytes::{bytes_of, shown};
-use hazard_types::{Oom, Query, Text};
+use hazard_types::{Oom, Text};
+use office_types::Query;
 use std::alloc::{AllocError, Global};
 use warn_http::{
     BodyKind, Call, HttpRead, Routes, is_status, read_call, refusal_status, write_answer,

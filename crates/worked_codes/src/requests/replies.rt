@@ -1,8 +1,6 @@
 //! Examples of replies, by name, and of drafts.
-use hazard_types::{
-    Category, Desk, Draft, Event, Hazard, Intent, List, Minute, Oom, Phen, Reply, Request,
-    SentReply, Sig, Word, read_stamp,
-};
+use hazard_types::{Category, Event, Hazard, List, Minute, Oom, Phen, Sig, read_stamp};
+use office_types::{Desk, Draft, Intent, Reply, Request, SentReply, Word};
 use std::alloc::Global;
 
 /// Returns the event of hazard WS.W with this event tracking number in 2018.

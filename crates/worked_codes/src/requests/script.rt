@@ -1,7 +1,8 @@
 //! The lines of requests. Each returns a JSON text, but `words`, whose text is for people.
 use crate::requests::bytes::{bytes_of, nested};
 use crate::requests::replies::{draft_with, reply_named};
-use hazard_types::{Desk, List, Minute, Oom, Or, Request, Text};
+use hazard_types::{List, Minute, Oom, Or, Text};
+use office_types::{Desk, Request};
 use request_json::{
     Asked, disk_fault_text, draft_text, out_of_memory_text, read_request, read_training_issue,
     refusal_text, reply_text, request_text,

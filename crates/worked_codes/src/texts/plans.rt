@@ -16,9 +16,10 @@ ghost use Rattle.worked_codes.specs.Plans.{plan_of, Fits};
 use desk_settings::Settings;
 use hazard_types::desk_hazards::facts;
 use hazard_types::{
-    Action, Category, Class, End, EventTexts, Flood, List, Minute, Oom, Plan, SegLine, Segment,
-    Texts, Zone, is_location, is_printable,
+    Action, Category, Class, End, Flood, List, Minute, Oom, SegLine, Segment, Zone, is_location,
+    is_printable,
 };
+use office_types::{EventTexts, Plan, Texts};
 use std::alloc::Global;
 
 /// Whether the site of the flood values, if any, is a location's code.

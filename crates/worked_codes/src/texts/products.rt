@@ -11,10 +11,10 @@ use crate::texts::lines::{Said, read_line};
 use crate::texts::plans::{fits, plan_of};
 use desk_settings::{Settings, read_settings, training_settings};
 use hazard_types::{
-    Category, Class, Edition, List, Minute, Oom, Or, Plan, Refusal, Text, Texts, Zone, categories,
-    classes, find, is_office,
+    Category, Class, List, Minute, Oom, Or, Text, Zone, categories, classes, find, is_office,
 };
 use hvtec_string::read_hvtec;
+use office_types::{Edition, Plan, Refusal, Texts};
 use product_template::product_text;
 use std::alloc::Global;
 use ugc_codes::read_ugc;

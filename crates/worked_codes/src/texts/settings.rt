@@ -2,8 +2,9 @@
 use crate::codes::answers::bytes_of;
 use desk_settings::{Settings, SettingsFault, read_settings, training_settings};
 use hazard_types::{
-    Category, Desk, Kind, Oom, Or, Text, Zone, categories, find, is_office, zone_in, zone_text,
+    Category, Kind, Oom, Or, Text, Zone, categories, find, is_office, zone_in, zone_text,
 };
+use office_types::Desk;
 use std::alloc::{AllocError, Global};
 use worked_lines::text_of;
 

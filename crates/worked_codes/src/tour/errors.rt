@@ -1,7 +1,8 @@
 //! Errors, as they are printed.
 use desk_clock::read_local_line;
 use desk_settings::read_settings;
-use hazard_types::{Desk, Oom, Refusal, event_in, zone_in};
+use hazard_types::{Oom, event_in, zone_in};
+use office_types::{Desk, Refusal};
 use product_decoder::decode;
 use std::alloc::{AllocError, Global};
 use std::error::Error;

@@ -3,8 +3,9 @@ ghost use Rattle.std.specs.Prelude.{IfOk};
 ghost use Rattle.request_json.specs.Formed.{HasForm};
 ghost use Rattle.office_core.specs.Prepared.{MayCommit};
 
-use hazard_types::{Edition, List, Oom, Or, Query, Refusal, Text};
+use hazard_types::{List, Oom, Or, Text};
 use office_core::{Office, Prepared, Ready};
+use office_types::{Edition, Query, Refusal};
 use request_json::{Asked, read_request, refusal_text, reply_text};
 use std::alloc::Global;
 

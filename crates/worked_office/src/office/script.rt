@@ -5,8 +5,9 @@ ghost use Rattle.desk_settings.specs.AreSettings.{AreSettings};
 use crate::office::answers::{look_answer, request_answer, turn_answer};
 use crate::office::steps::{Step, step_of};
 use desk_settings::{Settings, read_settings};
-use hazard_types::{Class, Edition, List, Minute, Oom, Or, Query, Text, stamp};
+use hazard_types::{Class, List, Minute, Oom, Or, Text, stamp};
 use office_core::Office;
+use office_types::{Edition, Query};
 use std::alloc::Global;
 use worked_lines::{Work, shown, text_of};
 

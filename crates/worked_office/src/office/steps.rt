@@ -1,5 +1,6 @@
 //! The steps of a script of an office, one a line.
-use hazard_types::{Edition, Query, read_stamp};
+use hazard_types::read_stamp;
+use office_types::{Edition, Query};
 
 /// A step of the script.
 #[derive(Clone, Copy)]

@@ -8,9 +8,10 @@ ghost use Rattle.worked_rows.specs.Written.{CanBeWritten};
 
 use hazard_board::Standing;
 use hazard_types::{
-    Clash, Class, DayStamp, End, Event, Hazard, Minute, Oom, Plan, Refusal, Row, SegLine, Segment,
-    Vtec, Zone, civil_of, end_text, hazard_text, stamp, zone_text,
+    Clash, Class, DayStamp, End, Event, Hazard, Minute, Oom, Row, SegLine, Segment, Vtec, Zone,
+    civil_of, end_text, hazard_text, stamp, zone_text,
 };
+use office_types::{Plan, Refusal};
 use segmenter::expiry;
 use std::alloc::{AllocError, Global};
 use ugc_codes::write_ugc;

@@ -3,7 +3,7 @@
 ghost use Rattle.std.specs.Prelude.{◌≡◌, ◌<◌, ◌≤◌, [], ◌∷◌, ◌++◌, length, None, Some, Err, IfOk, OnOk, OnErr};
 ghost use Rattle.std.specs.List.{AllByRecursion};
 ghost use Rattle.hazard_types.specs.declared.or.Or.TheVariants.{No};
-ghost use Rattle.hazard_types.specs.declared.refusal.Refusal.{Refusal as Refused};
+ghost use Rattle.office_types.specs.declared.refusal.Refusal.{Refusal as Refused};
 ghost use Rattle.event_life.specs.Products.{rows_after};
 ghost use Rattle.event_life.specs.Shown.{shown_at};
 ghost use Rattle.event_numbers.specs.Counts.{DrawsAll};
@@ -15,7 +15,7 @@ ghost use Rattle.action_planner.specs.Offences.{broken};
 ghost use Rattle.action_planner.specs.Placed.{placed, opened};
 ghost use Rattle.action_planner.specs.Plans.{IsPlan};
 ghost use Rattle.action_planner.specs.Corrections.{IsCorrection, broken_correction};
-ghost use Rattle.hazard_types.specs.declared.request.Sent.{Sent as AnySent};
+ghost use Rattle.office_types.specs.declared.request.Sent.{Sent as AnySent};
 ghost use Rattle.worked_rows.specs.Days.{IsAt, MaySend, last_of, letters_of, number_behind, original_of, sent_of};
 ghost use Rattle.worked_rows.specs.Written.{CanBeWritten};
 
@@ -28,9 +28,8 @@ use action_planner::{
 use event_life::rows_stay_in_order;
 use event_numbers::Numbers;
 use hazard_board::{Board, Standing, openings};
-use hazard_types::{
-    Clash, Draft, EventTexts, Hazard, Line, List, Minute, Oom, Or, Plan, Refusal, Row, Sent, Zone,
-};
+use hazard_types::{Clash, Hazard, Line, List, Minute, Oom, Or, Row, Zone};
+use office_types::{Draft, EventTexts, Plan, Refusal, Sent};
 use std::alloc::Global;
 use std::marker::Model;
 

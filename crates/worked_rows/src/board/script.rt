@@ -10,10 +10,8 @@ use crate::board::steps::{Step, step_of};
 use crate::board::words::Unread;
 use action_planner::{MOST_INTENTS, may_be_planned, no_texts};
 use hazard_types::desk_hazards::facts;
-use hazard_types::{
-    Begin, Category, Desk, Draft, End, EventTexts, Hazard, Intent, Kind, Line, List, Minute, Oom,
-    Or, PutPart, Refusal, Target, Zone,
-};
+use hazard_types::{Begin, Category, End, Hazard, Kind, Line, List, Minute, Oom, Or, Zone};
+use office_types::{Desk, Draft, EventTexts, Intent, PutPart, Refusal, Target};
 use std::alloc::Global;
 use worked_lines::Work;
 

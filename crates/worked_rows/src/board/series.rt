@@ -2,7 +2,8 @@
 ghost use Rattle.std.specs.Prelude.{◌≡◌, ◌≤◌};
 ghost use Rattle.worked_rows.specs.Days.{of_rivers, are_alike, last_of, is_number, corrects, letters_of, original_of};
 
-use hazard_types::{Category, Sent};
+use hazard_types::Category;
+use office_types::Sent;
 
 /// Whether the category is FLW or FLS.
 fn of_rivers(category: Category) -> bool

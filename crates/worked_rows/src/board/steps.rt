@@ -5,9 +5,9 @@ use crate::board::words::{
 };
 use action_planner::no_texts;
 use hazard_types::{
-    Category, Cause, EventPart, EventTexts, Flood, Hazard, Intent, Line, List, Minute, Or, PutPart,
-    RoutinePart, Severity, Status, Texts, Zone,
+    Category, Cause, Flood, Hazard, Line, List, Minute, Or, Severity, Status, Zone,
 };
+use office_types::{EventPart, EventTexts, Intent, PutPart, RoutinePart, Texts};
 use std::alloc::Global;
 use std::str::SplitWhitespace;
 

@@ -1,8 +1,9 @@
 //! The words of a script of days.
 use hazard_types::{
-    Action, Begin, Category, End, Event, Hazard, List, Minute, Or, Target, Zone, actions,
-    categories, event_in, find, hazard_in, read_stamp, zone_in,
+    Action, Begin, Category, End, Event, Hazard, List, Minute, Or, Zone, actions, categories,
+    event_in, find, hazard_in, read_stamp, zone_in,
 };
+use office_types::Target;
 use std::alloc::Global;
 
 /// The error of a word that the script cannot read.

@@ -1,7 +1,7 @@
 -- A rule that is named is the first that is broken; the lines, which are apart, are lawful.
 use Rattle.std.proofs.Common.{◌≡◌, ◌∙◌, List, Option, Some, None, ap, rules}
 use Rattle.hazard_types.specs.declared.line.Line.{Line}
-use Rattle.hazard_types.specs.declared.refusal.Refusal.{Refusal}
+use Rattle.office_types.specs.declared.refusal.Refusal.{Refusal}
 use Rattle.event_life.specs.Reordered.{are_lawful}
 use Rattle.action_planner.specs.Corrections.{broken_on, corrected_lines, lineless}
 use Rattle.action_planner.proofs.CorrectionLemmas.{corrected_lawful, other_named, text_named}

@@ -1,7 +1,7 @@
 -- Where no rule is broken the lines are those of the cases, and lawful; a rule that is named is the first that is broken.
 use Rattle.std.proofs.Common.{◌≡◌, ◌∙◌, Option, Some, None, ap, rules}
 use Rattle.std.specs.List.Sorted.{IsStrictlySortedBy}
-use Rattle.hazard_types.specs.declared.refusal.Refusal.{Refusal}
+use Rattle.office_types.specs.declared.refusal.Refusal.{Refusal}
 use Rattle.event_life.specs.Products.{by_key}
 use Rattle.action_planner.specs.Placed.{placed}
 use Rattle.action_planner.specs.Lines.{planned_lines}

@@ -1,5 +1,5 @@
 use Rattle.hazard_types.specs.declared.codes.Class.TheVariants as class
-use Rattle.hazard_types.specs.declared.request.Edition.TheVariants.{One}
+use Rattle.office_types.specs.declared.request.Edition.TheVariants.{One}
 use Rattle.desk_settings.specs.AreSettings.{training_of}
 use Rattle.desk_program.proofs.Drying.{dry_run, unbegun}
 use Rattle.desk_program.proofs.training.run_training.Goals as goal

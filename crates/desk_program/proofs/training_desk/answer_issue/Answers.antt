@@ -1,5 +1,5 @@
 use Rattle.std.proofs.Common.{rules, ◌∙◌, ◌+◌, ℕ, List, Ok, ap, subst, to_z, of_z, w64}
-use Rattle.hazard_types.specs.declared.request.Request.TheVariants.{Issue}
+use Rattle.office_types.specs.declared.request.Request.TheVariants.{Issue}
 use Rattle.office_core.specs.Step.{Accepts}
 use Rattle.desk_program.proofs.TrainingLemmas.{answers_if, has_made, is_some, trains_if}
 use Rattle.desk_program.proofs.training_desk.answer_issue.Goals as goal

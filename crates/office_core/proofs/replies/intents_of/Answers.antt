@@ -1,6 +1,6 @@
 -- The draft that is found has at most 64 intents.
 use Rattle.std.proofs.Common.{◌≡◌, ◌≤◌, Some, find, length, sym, arith}
-use Rattle.hazard_types.specs.declared.request.Draft.{Draft}
+use Rattle.office_types.specs.declared.request.Draft.{Draft}
 use Rattle.office_core.specs.State.{is_draft}
 use Rattle.office_core.proofs.FoundLemmas.{found_one}
 use Rattle.office_core.proofs.replies.intents_of.Goals as goal

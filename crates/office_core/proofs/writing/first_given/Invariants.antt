@@ -1,6 +1,6 @@
 -- the texts that are left decide as all do
 use Rattle.std.proofs.Common.{◌≡◌, drop, map}
-use Rattle.hazard_types.specs.declared.request.EventTexts.{EventTexts}
+use Rattle.office_types.specs.declared.request.EventTexts.{EventTexts}
 use Rattle.office_core.specs.TextRules.{under}
 use Rattle.office_core.specs.Writing.{first_texts}
 use Rattle.office_core.proofs.writing.first_given.Given as goal

@@ -1,6 +1,6 @@
 use Rattle.std.proofs.Common.{rules, ◌≡◌, ◌++◌, ◌∷◌, [], refl, ◌∙◌}
 use Rattle.hazard_types.specs.Calendar.{stamp_of}
-use Rattle.hazard_types.specs.declared.request.Edition.TheVariants.{One, Two}
+use Rattle.office_types.specs.declared.request.Edition.TheVariants.{One, Two}
 use Rattle.request_json.specs.Canonical.{asked_text}
 use Rattle.office_journal.specs.Bodies.{asked_by}
 use Rattle.office_journal.proofs.Writing.{asked_so, bare, in_one, with_text, with_this, without_text}

@@ -1,5 +1,5 @@
 use Rattle.std.proofs.Common.{◌≡◌, ◌++◌, List, drop, option_map}
-use Rattle.hazard_types.specs.declared.request.EventTexts.{EventTexts}
+use Rattle.office_types.specs.declared.request.EventTexts.{EventTexts}
 use Rattle.serde_json.specs.View.{items_view}
 use Rattle.request_json.specs.Fields.{each_event_texts}
 use Rattle.request_json.proofs.fields.each_event_texts.Given as goal

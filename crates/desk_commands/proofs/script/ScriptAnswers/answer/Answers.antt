@@ -1,7 +1,7 @@
 use Rattle.std.proofs.Common.{rules, ℕ, ℤ, List, option_map, Bor, refl, ap, sym, ◌∙◌, subst, w64}
 use Rattle.std.proofs.lemmas.Int.{to_z-of_z}
 use mir.Val.{SFits}
-use Rattle.hazard_types.specs.declared.refusal.Refusal.TheVariants.{LineTooLong}
+use Rattle.office_types.specs.declared.refusal.Refusal.TheVariants.{LineTooLong}
 use Rattle.program_ends.specs.Replies.{bytes_of}
 use Rattle.desk_commands.specs.Lines.{ended}
 use Rattle.desk_commands.specs.Scripts.{IsRead, line_asks}

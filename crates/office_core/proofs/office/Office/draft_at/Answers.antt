@@ -1,6 +1,6 @@
 -- An open draft was touched at an entry.
 use Rattle.std.proofs.Common.{◌≡◌, Bor, option_map, rules, subst}
-use Rattle.hazard_types.specs.declared.request.Draft.{Draft}
+use Rattle.office_types.specs.declared.request.Draft.{Draft}
 use Rattle.office_core.specs.Sound.{IsSound}
 use Rattle.office_core.specs.State.{draft_at}
 use Rattle.office_core.specs.Views.{OfficeView}

@@ -1,9 +1,9 @@
 -- The plan of a correction is written; the rule that is named is the first that is broken.
 use Rattle.std.proofs.Common.{◌≡◌, ◌∙◌, ℕ, List, Option, Some, None, inl, inr, ap, subst, sym, rules}
 use Rattle.hazard_types.specs.declared.hazard.Event.{Event}
-use Rattle.hazard_types.specs.declared.refusal.Refusal.{Refusal}
-use Rattle.hazard_types.specs.declared.request.Plan.{Plan}
-use Rattle.hazard_types.specs.declared.request.Sent.{Sent}
+use Rattle.office_types.specs.declared.refusal.Refusal.{Refusal}
+use Rattle.office_types.specs.declared.request.Plan.{Plan}
+use Rattle.office_types.specs.declared.request.Sent.{Sent}
 use Rattle.event_numbers.specs.Counts.{AreDrawnInOrder}
 use Rattle.action_planner.specs.Corrections.{CanCorrect, IsCorrection, broken_correction}
 use Rattle.office_core.specs.Making.{Making, IsPlanOf, broken_lines, last_of_category, letters_of, original_of}

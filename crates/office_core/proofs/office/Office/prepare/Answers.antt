@@ -43,7 +43,7 @@ pub returns-then-is_repeated-clause-again : goal.returns-then-is_repeated-clause
 returns-then-is_repeated-clause-again c e =
     let s = c.args.self.now.state in
     let still = subst (λ (z : ℤ). broken_request s c.args.desk c.args.seq c.args.r.now z ≡ None) (to_z-of_z w64 c.args.reading c.ranges.reading) (sym c.in_ok-refusal.ensures ∙ c.in_default.is) in
-    repeated_request s c.args.desk c.args.seq c.args.r.now c.args.reading c.equality_is_identity.ensures.requests (sym c.if-is_repeated.ensures) still
+    repeated_request s c.args.desk c.args.seq c.args.r.now c.args.reading c.equality_of_requests_is_identity.ensures.requests (sym c.if-is_repeated.ensures) still
 
 pub minute_of-t-requires : goal.minute_of-t-requires
 minute_of-t-requires c = subst (λ (z : ℤ). is_out z ≡ false) (sym (read c)) (in_range c)

@@ -1,7 +1,7 @@
 use Rattle.std.proofs.Common.{◌≡◌, ◌⊎◌, ◌∙◌, inl, ℕ, ℤ, List, Some, Ok, Err, option_map, refl, sym, ap, subst, w64}
 use Rattle.std.proofs.lemmas.Int.{to_z-of_z}
 use Rattle.desk_traits.proofs.Moments.{weaker}
-use Rattle.hazard_types.specs.declared.request.Reply.{Reply}
+use Rattle.office_types.specs.declared.request.Reply.{Reply}
 use Rattle.request_json.specs.Replies.{reply_text}
 use Rattle.office_core.specs.Prepared.{IsReady, Readied}
 use Rattle.office_core.specs.Step.{Refuses, Repeats}

@@ -1,6 +1,6 @@
 use Rattle.std.proofs.Common.{rules, ◌≡◌, ◌⊎◌, inl, ℕ, List, None, Some, Err, option_map, refl, sym, ◌∙◌, ap, subst}
 use Rattle.desk_traits.proofs.Moments.{nothing, weaker}
-use Rattle.hazard_types.specs.declared.request.Edition.TheVariants.{One}
+use Rattle.office_types.specs.declared.request.Edition.TheVariants.{One}
 use Rattle.journal_core.specs.Image.{IsOneOf}
 use Rattle.journal_core.specs.Kept.{Keeps}
 use Rattle.office_core.specs.State.{State}

@@ -1,6 +1,6 @@
 use Rattle.std.proofs.Common.{refl}
 use Rattle.hazard_types.specs.declared.codes.Class.TheVariants.{O}
-use Rattle.hazard_types.specs.declared.request.Edition.TheVariants.{One}
+use Rattle.office_types.specs.declared.request.Edition.TheVariants.{One}
 use Rattle.office_journal.specs.declared.replay.Replayed.{Replayed}
 use Rattle.office_journal.proofs.Taking.{begins}
 use Rattle.office_journal.proofs.replay.Replayed.first.Goals as goal

@@ -1,7 +1,7 @@
 use Rattle.std.proofs.Common.{refl, subst, inl, inr}
 use Rattle.hazard_types.specs.Given.{Refuses}
 use Rattle.hazard_types.specs.declared.or.Or.{Or}
-use Rattle.hazard_types.specs.declared.refusal.Refusal.{Refusal}
+use Rattle.office_types.specs.declared.refusal.Refusal.{Refusal}
 use Rattle.request_json.specs.Form.{asked_of}
 use Rattle.warn_serve.specs.Answers.{refused_answer}
 use Rattle.warn_serve.proofs.service.Service.answer_post.Goals as goal

@@ -1,6 +1,6 @@
 -- the products that are left lead to what all of them do
 use Rattle.std.proofs.Common.{◌≡◌, ℕ, drop, fold, if◌then◌else◌}
-use Rattle.hazard_types.specs.declared.request.Sent.{Sent}
+use Rattle.office_types.specs.declared.request.Sent.{Sent}
 use Rattle.worked_rows.specs.Days.{are_alike}
 use Rattle.worked_rows.proofs.board.series.last_of.Given as goal
 

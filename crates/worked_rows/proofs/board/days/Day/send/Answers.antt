@@ -5,7 +5,7 @@ use Rattle.std.specs.List.Sorted.{IsStrictlySortedBy}
 use Rattle.hazard_types.specs.declared.hazard.Event.{Event}
 use Rattle.hazard_types.specs.declared.line.Line.{Line}
 use Rattle.hazard_types.specs.declared.line.Row.{Row}
-use Rattle.hazard_types.specs.declared.request.Sent.{Sent}
+use Rattle.office_types.specs.declared.request.Sent.{Sent}
 use Rattle.event_life.specs.Openings.{is_numbered}
 use Rattle.event_life.specs.Products.{by_key, rows_after}
 use Rattle.event_numbers.specs.declared.Count.{Count}

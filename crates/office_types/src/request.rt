@@ -1,12 +1,8 @@
 //! Requests of the desks, their replies, drafts, products and the entries of the journal.
-use crate::codes::Category;
 use crate::desk::Desk;
-use crate::hazard::{Event, Hazard};
-use crate::line::{Flood, Line, Segment};
-use crate::list::{List, Text};
-use crate::minute::Minute;
-use crate::period::{Begin, End};
-use crate::zone::Zone;
+use hazard_types::{
+    Begin, Category, End, Event, Flood, Hazard, Line, List, Minute, Segment, Text, Zone,
+};
 
 /// A forecaster's texts on an event. An empty one is left out of the product.
 ///

@@ -1,12 +1,9 @@
 //! The reasons for which a request is refused.
 ghost use Rattle.std.specs.Prelude.{◌≡◌};
-ghost use Rattle.hazard_types.specs.Refusals.{label};
+ghost use Rattle.office_types.specs.Refusals.{label};
 
 use crate::desk::Desk;
-use crate::hazard::{Event, Hazard};
-use crate::list::Text;
-use crate::minute::Minute;
-use crate::zone::Zone;
+use hazard_types::{Event, Hazard, Minute, Text, Zone};
 
 /// Why a request is refused, with the values that the reply names. `place` is the place of an
 /// intent in its draft, counted from 0.

@@ -1,7 +1,7 @@
 -- The code, the name and the HTTP status of each refusal.
 use Rattle.std.specs.Prelude.{ℕ, List, codes}
-use Rattle.hazard_types.specs.declared.refusal.Refusal.{Refusal}
-use Rattle.hazard_types.specs.declared.refusal.Refusal.TheVariants as refusal
+use Rattle.office_types.specs.declared.refusal.Refusal.{Refusal}
+use Rattle.office_types.specs.declared.refusal.Refusal.TheVariants as refusal
 
 -- the table of refusals
 unfoldable pub label : Refusal → List ℕ × List ℕ × ℕ

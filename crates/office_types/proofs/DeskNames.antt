@@ -3,7 +3,7 @@ use Rattle.std.proofs.Common.{◌≡◌, ◌≤◌, ◌-◌, ◌&&◌, ℕ, Bool
 use Rattle.std.specs.List.{list_all}
 use Rattle.std.proofs.lemmas.List.{take_at, drop_at, drop-replicate, length-replicate}
 use Rattle.hazard_types.specs.Characters.{is_name_byte}
-use Rattle.hazard_types.specs.Desks.{is_desk_name, padded, IsName}
+use Rattle.office_types.specs.Desks.{is_desk_name, padded, IsName}
 
 both : (a b : Bool) → (a && b) ≡ true → (a ≡ true) × (b ≡ true)
 both true b h = (refl, h)

@@ -1,8 +1,8 @@
 //! The names of desks.
 ghost use Rattle.std.specs.Prelude.{◌≡◌, ◌≤◌, ◌&&◌, if◌then◌else◌, length, nat_le, List, ℕ, IsTrue};
-ghost use Rattle.hazard_types.specs.Desks.{is_desk_name, padded};
+ghost use Rattle.office_types.specs.Desks.{is_desk_name, padded};
 
-use crate::characters::are_name_bytes;
+use hazard_types::are_name_bytes;
 use std::marker::Model;
 
 /// The most characters of a desk's name.
@@ -20,7 +20,7 @@ pub struct Desk {
 
 impl Model for Desk {
     ghost use Rattle.std.specs.Prelude.{List, ℕ, take, length};
-    ghost use Rattle.hazard_types.specs.Desks.{IsName, padded, padded_back};
+    ghost use Rattle.office_types.specs.Desks.{IsName, padded, padded_back};
 
     ghost Value = { List ℕ };
 

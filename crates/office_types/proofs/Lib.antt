@@ -1,0 +1,2 @@
+pub mod DeskNames
+pub mod Equality
