@@ -22,7 +22,7 @@ use Rattle.hazard_types.specs.declared.period.Period.{Period}
 use Rattle.office_types.specs.declared.request.PutPart.{PutPart}
 use Rattle.hazard_types.proofs.Equality.{category_decides, event_decides, zone_itself, zone_one}
 use Rattle.event_life.specs.Bounds.{AreSame, IsBefore, IsNear}
-use Rattle.event_life.specs.Periods.{ends_after, ends_within, is_live, keeps_open, overlaps, same_at, same_end}
+use Rattle.event_life.specs.Periods.{ends_after, is_not_long_past, is_live, keeps_open, overlaps, same_at, same_end}
 use Rattle.hazard_board.specs.Board.{has_period}
 use Rattle.action_planner.specs.Placed.{Placed, zones_of, touches, speaks}
 use Rattle.action_planner.specs.Lines.{follows, is_near_end, put_period}
@@ -81,7 +81,7 @@ pub before_Decides : (end : End) (t : ℕ) → Decides (ends_after end t) (IsBef
 before_Decides (At m) t = Decides-ltb t m
 before_Decides Ufn t = (λ _. tt, λ _. refl)
 
-recent_Decides : (end : End) (t : ℕ) → Decides (ends_within end t) (IsNotLongAfter t end)
+recent_Decides : (end : End) (t : ℕ) → Decides (is_not_long_past end t) (IsNotLongAfter t end)
 recent_Decides (At m) t = le_Decides t (m + 30)
 recent_Decides Ufn t = (λ _. tt, λ _. refl)
 

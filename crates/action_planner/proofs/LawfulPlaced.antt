@@ -21,7 +21,7 @@ use Rattle.event_numbers.specs.declared.Count.{Count}
 use Rattle.event_numbers.specs.Counts.{count_of}
 use Rattle.action_planner.specs.Placed.{Placed, placed, placed_from, event_of_intent, event_of_target, new_event, is_opening, is_opening_target, zones_of}
 use Rattle.action_planner.specs.Conditions.{AreNumbered, CanPlan, MayHold}
-use Rattle.action_planner.specs.Offences.{broken, rules, first_by, first_given, zone_named, not_live, left_before, twice, needs_event, not_open, gone, is_gone, left, was_left, shared, is_shared, bad_period, needed_flood, site_moved, held, holds, held_by}
+use Rattle.action_planner.specs.Offences.{broken, rules, first_by, first_given, zone_named, refused_not_live, refused_left_before, refused_twice, needs_event, not_open, not_live, is_gone, left_before, was_left, twice, is_shared, bad_period, needed_flood, site_moved, number_held, holds, held_by}
 use Rattle.action_planner.proofs.LawfulLists.{EachPair, find_none, none_from}
 
 -- an intent of which no rule is broken
@@ -109,8 +109,8 @@ places_apart counts t earlier (i ∷ intents) =
 
 fit_all : (rows : List Row) (t : ℕ) (all ps : List Placed) →
     AllByRecursion (λ p. is_opening p.intent ≡ true → has_rows rows p.event ≡ false) ps → AllByRecursion (λ p. IsDistinct same_zone (zones_of p.intent)) ps →
-    AllByRecursion (λ p. not_open rows t p ≡ None) ps → AllByRecursion (λ p. gone rows t p ≡ None) ps → AllByRecursion (λ p. left rows t p ≡ None) ps →
-    AllByRecursion (λ p. shared all p ≡ None) ps → AllByRecursion (λ p. bad_period t p ≡ None) ps → AllByRecursion (λ p. held rows t p ≡ None) ps →
+    AllByRecursion (λ p. not_open rows t p ≡ None) ps → AllByRecursion (λ p. not_live rows t p ≡ None) ps → AllByRecursion (λ p. left_before rows t p ≡ None) ps →
+    AllByRecursion (λ p. twice all p ≡ None) ps → AllByRecursion (λ p. bad_period t p ≡ None) ps → AllByRecursion (λ p. number_held rows t p ≡ None) ps →
     AllByRecursion (λ p. needed_flood p ≡ None) ps → AllByRecursion (λ p. site_moved rows p ≡ None) ps →
     AllByRecursion (IsFit rows t all) ps
 fit_all rows t all [] new once known there live own period free flood site = tt
@@ -120,9 +120,9 @@ fit_all rows t all (p ∷ ps) new once known there live own period free flood si
       free = held_by_none rows t p.event (is_opening p.intent) free.0;
       known = open_by (needs_event p.intent) (is_open rows t p.event) _ known.0;
       period = period.0;
-      there = named_none not_live p.event (is_gone rows t p.event p.intent) (zones_of p.intent) there.0;
-      live = named_none left_before p.event (was_left rows t p.event p.intent) (zones_of p.intent) live.0;
-      own = named_none twice p.event (is_shared all p) (zones_of p.intent) own.0;
+      there = named_none refused_not_live p.event (is_gone rows t p.event p.intent) (zones_of p.intent) there.0;
+      live = named_none refused_left_before p.event (was_left rows t p.event p.intent) (zones_of p.intent) live.0;
+      own = named_none refused_twice p.event (is_shared all p) (zones_of p.intent) own.0;
       once = once.0;
       flood = flood.0;
       site = site.0;
@@ -140,10 +140,10 @@ fits c rows counts intents t can h =
     (new_placed rows counts can.numbered t [] intents)
     (once_placed counts c t [] intents (recursion_from_All (MayHold c) intents can.fitting))
     (by_none (not_open rows t) ps given.1.0)
-    (by_none (gone rows t) ps given.1.1.0)
-    (by_none (left rows t) ps given.1.1.1.0)
-    (by_none (shared ps) ps given.1.1.1.1.0)
+    (by_none (not_live rows t) ps given.1.1.0)
+    (by_none (left_before rows t) ps given.1.1.1.0)
+    (by_none (twice ps) ps given.1.1.1.1.0)
     (by_none (bad_period t) ps given.1.1.1.1.1.0)
-    (by_none (held rows t) ps given.1.1.1.1.1.1.1.1.1.1.1.1.0)
+    (by_none (number_held rows t) ps given.1.1.1.1.1.1.1.1.1.1.1.1.0)
     (by_none needed_flood ps given.1.1.1.1.1.1.1.1.0)
     (by_none (site_moved rows) ps given.1.1.1.1.1.1.1.1.1.1.0)

@@ -18,7 +18,7 @@ use Rattle.office_types.specs.declared.request.Target.TheVariants.{Fresh, Join}
 use Rattle.event_life.specs.declared.life.Around.{Around}
 use Rattle.event_life.specs.declared.life.Breach.{Breach}
 use Rattle.event_life.specs.declared.life.Breach.TheVariants.{TooEarly, PeriodMoved, PeriodSame, TooLate, NoHigher}
-use Rattle.event_life.specs.Periods.{ends_after, ends_within, is_live, keeps_open, same_at, same_end}
+use Rattle.event_life.specs.Periods.{ends_after, is_not_long_past, is_live, keeps_open, same_at, same_end}
 use Rattle.event_life.specs.Table.{first_of, on_continuing, on_ending, prints_begin, moves_begin, prints_past, prints_later, expires_early, expires_late, cancels_late, continued_period, stays, breach_of_line}
 use Rattle.event_life.specs.Products.{around_but_higher, has_rows, is_held, is_open, is_upgrade, life_at, life_of, row_at}
 use Rattle.event_life.proofs.Puts.{at_key, at_key-parts}
@@ -292,7 +292,7 @@ late_by : (m t : ℕ) (x : Bool) → nat_le m (t + 30) ≡ x → nat_le t (m + 3
 late_by m t true e h g = let f : nat_le t (m + 30) ≡ false = g in cc
 late_by m t false e h g = e
 
-cancels_in_time : (end : End) (t : ℕ) → ends_within end t ≡ true → is_near_end end t ≡ false → cancels_late end t ≡ false
+cancels_in_time : (end : End) (t : ℕ) → is_not_long_past end t ≡ true → is_near_end end t ≡ false → cancels_late end t ≡ false
 cancels_in_time (At m) t h g = late_by m t (nat_le m (t + 30)) refl h g
 cancels_in_time Ufn t h g = refl
 

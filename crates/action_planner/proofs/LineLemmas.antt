@@ -27,7 +27,7 @@ use Rattle.event_numbers.specs.Counts.{count_of}
 use Rattle.action_planner.specs.Conditions.{AreNumbered, AreSited, CanPlan, MayHold, needs_values}
 use Rattle.action_planner.specs.Corrections.{corrected_lines}
 use Rattle.action_planner.specs.Lines.{added_lines, finish_lines, goes_on, goes_on_beside, is_near_end, is_overlaid, joined_row, line_on, lines_from, lines_in, planned_lines, restate_lines}
-use Rattle.action_planner.specs.Offences.{broken, first_by, needs_event, rules, spent}
+use Rattle.action_planner.specs.Offences.{broken, first_by, needs_event, rules, numbers_spent}
 use Rattle.action_planner.specs.Placed.{Placed, is_opening, is_opening_target, placed, placed_from, speaks, touches, zones_of}
 use Rattle.action_planner.specs.Standing.{AreKnown, HaveFourDigits, IsKnown}
 use Rattle.action_planner.specs.Told.{flood_of, passes}
@@ -77,7 +77,7 @@ module _ (c : Category) (rows : List Row) (counts : List Count) (intents : List 
   fit_at : (p : Placed) → Has ps p → IsFit rows t ps p
   fit_at p g = all_has (IsFit rows t ps) ps p (fits c rows counts intents t can h) g
 
-  none_spent : first_by spent ps ≡ None
+  none_spent : first_by numbers_spent ps ≡ None
   unfolding broken
   none_spent = (given_none (rules c rows t ps) h).1.1.1.1.1.1.1.1.1.1.1.1.1.0
 

@@ -38,7 +38,7 @@ use Rattle.hazard_board.proofs.NumberLemmas.{after_consistent, behind_hold, stay
 use Rattle.hazard_board.proofs.Turns.{lawful_taken}
 use Rattle.action_planner.specs.Conditions.{AreNumbered, CanPlan, Fits, FitsTarget, MayHold}
 use Rattle.action_planner.specs.Lines.{planned_lines}
-use Rattle.action_planner.specs.Offences.{broken, first_by, refused_clash, rules, spent}
+use Rattle.action_planner.specs.Offences.{broken, first_by, refused_clash, rules, numbers_spent}
 use Rattle.action_planner.specs.Placed.{Placed, event_of_intent, event_of_target, is_opening, opened, opens_hazard, placed, placed_from}
 use Rattle.action_planner.specs.Standing.{AreKnown, HaveFourDigits, IsKnown, Stands}
 use Rattle.action_planner.proofs.Lawful.{planned_lawful, sound}
@@ -89,11 +89,11 @@ not_spent : (opening : Bool) (etn : ℕ) (r : Refusal) → opening ≡ true → 
 not_spent true etn r o h = ltb-false 9999 etn (not_bad (nat_lt 9999 etn) r h)
 not_spent false etn r o h = cc
 
-pub four_digits : (ps : List Placed) (e : Event) → first_by spent ps ≡ None → Has (opened ps) e → e.etn ≤ 9999
+pub four_digits : (ps : List Placed) (e : Event) → first_by numbers_spent ps ≡ None → Has (opened ps) e → e.etn ≤ 9999
 four_digits ps e none h =
     let m = has_map (λ (x : Placed). x.event) (filter (λ (x : Placed). is_opening x.intent) ps) e h in
     let k = has_filter (λ (x : Placed). is_opening x.intent) ps m.0 m.1 in
-    let own : spent m.0 ≡ None = all_has (λ (p : Placed). spent p ≡ None) ps m.0 (by_none spent ps none) k.0 in
+    let own : numbers_spent m.0 ≡ None = all_has (λ (p : Placed). numbers_spent p ≡ None) ps m.0 (by_none numbers_spent ps none) k.0 in
     subst (λ (x : Event). x.etn ≤ 9999) m.2 (not_spent (is_opening m.0.intent) m.0.event.etn _ k.1 own)
 
 pub is_among_opened : (ps : List Placed) (p : Placed) → Has ps p → is_opening p.intent ≡ true → Has (opened ps) p.event
@@ -211,7 +211,7 @@ known_line rows ps known fit line (inr (inr f)) = subst (λ (e : Event). IsKnown
 
 -- numbers after the product have four digits
 
-pub digits_after : (counts after : List Count) (ps : List Placed) → GoOn (count_of counts) (opened ps) → HaveFourDigits counts → first_by spent ps ≡ None → DrawsAll counts after (opened ps) → HaveFourDigits after
+pub digits_after : (counts after : List Count) (ps : List Placed) → GoOn (count_of counts) (opened ps) → HaveFourDigits counts → first_by numbers_spent ps ≡ None → DrawsAll counts after (opened ps) → HaveFourDigits after
 digits_after counts after ps on digits none draws h year =
     let more : ℕ = count_by (is_numbered h year) (opened ps) in
     let before : count_of counts h year ≤ 9999 = digits h year in

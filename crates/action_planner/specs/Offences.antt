@@ -38,17 +38,17 @@ first_by rule (p ∷ ps) = option_or (rule p) (first_by rule ps)
 abbrev pub zone_named : (Event → Place → Refusal) → Event → Option Place → Option Refusal
 zone_named names e found = option_map (names e) found
 
-abbrev pub not_live : Event → Place → Refusal
-not_live e z = refusal.NotLive e z
+abbrev pub refused_not_live : Event → Place → Refusal
+refused_not_live e z = refusal.NotLive e z
 
-abbrev pub left_before : Event → Place → Refusal
-left_before e z = refusal.LeftBefore e z
+abbrev pub refused_left_before : Event → Place → Refusal
+refused_left_before e z = refusal.LeftBefore e z
 
-abbrev pub twice : Event → Place → Refusal
-twice e z = refusal.Twice e z
+abbrev pub refused_twice : Event → Place → Refusal
+refused_twice e z = refusal.Twice e z
 
-abbrev pub begun_moved : Event → Place → Refusal
-begun_moved e z = refusal.BegunMoved e z
+abbrev pub refused_begun_moved : Event → Place → Refusal
+refused_begun_moved e z = refusal.BegunMoved e z
 
 -- EmptyDraft: the draft has no intent
 abbrev pub no_intent : List Placed → Option Refusal
@@ -76,8 +76,8 @@ is_gone rows t e (Finish part) z = not (has_row_by (keeps_open t) (row_at rows e
 is_gone rows t e (Restate part) z = not (has_row_by (is_live t) (row_at rows e z))
 is_gone rows t e (Routine part) z = false
 
-abbrev pub gone : List Row → ℕ → Placed → Option Refusal
-gone rows t p = zone_named not_live p.event (find (is_gone rows t p.event p.intent) (zones_of p.intent))
+abbrev pub not_live : List Row → ℕ → Placed → Option Refusal
+not_live rows t p = zone_named refused_not_live p.event (find (is_gone rows t p.event p.intent) (zones_of p.intent))
 
 -- LeftBefore: a joining put where the zone has a row that no line has ended and that is not live
 abbrev pub joins_by : Target → Bool
@@ -93,15 +93,15 @@ joins (Routine part) = false
 abbrev pub was_left : List Row → ℕ → Event → Intent → Place → Bool
 was_left rows t e i z = joins i && has_row_by (λ (row : Row). not row.ended && not (is_live t row)) (row_at rows e z)
 
-abbrev pub left : List Row → ℕ → Placed → Option Refusal
-left rows t p = zone_named left_before p.event (find (was_left rows t p.event p.intent) (zones_of p.intent))
+abbrev pub left_before : List Row → ℕ → Placed → Option Refusal
+left_before rows t p = zone_named refused_left_before p.event (find (was_left rows t p.event p.intent) (zones_of p.intent))
 
 -- Twice: another intent is on the event in the zone
 abbrev pub is_shared : List Placed → Placed → Place → Bool
 is_shared all p z = list_any (λ (q : Placed). not (q.place == p.place) && speaks p.event z q) all
 
-abbrev pub shared : List Placed → Placed → Option Refusal
-shared all p = zone_named twice p.event (find (is_shared all p) (zones_of p.intent))
+abbrev pub twice : List Placed → Placed → Option Refusal
+twice all p = zone_named refused_twice p.event (find (is_shared all p) (zones_of p.intent))
 
 -- BadPeriod: the begin of a put is a minute before this one, or its end is not after both
 abbrev pub is_bad_period : PutPart → ℕ → Bool
@@ -127,8 +127,8 @@ is_moved rows t e (Finish part) z = false
 is_moved rows t e (Restate part) z = false
 is_moved rows t e (Routine part) z = false
 
-abbrev pub moved : List Row → ℕ → Placed → Option Refusal
-moved rows t p = zone_named begun_moved p.event (find (is_moved rows t p.event p.intent) (zones_of p.intent))
+abbrev pub begun_moved : List Row → ℕ → Placed → Option Refusal
+begun_moved rows t p = zone_named refused_begun_moved p.event (find (is_moved rows t p.event p.intent) (zones_of p.intent))
 
 -- NoOpenEnd: until further notice, for a hazard that may not stand so
 abbrev pub may_stand_open : Option Facts → Bool
@@ -200,12 +200,12 @@ holds t e row = same_hazard row.event.hazard e.hazard && (row.event.etn == e.etn
 abbrev pub held_by : Row → Refusal
 held_by row = refusal.NumberHeld row.event
 
-abbrev pub held : List Row → ℕ → Placed → Option Refusal
-held rows t p = if is_opening p.intent then option_map held_by (find (holds t p.event) rows) else None
+abbrev pub number_held : List Row → ℕ → Placed → Option Refusal
+number_held rows t p = if is_opening p.intent then option_map held_by (find (holds t p.event) rows) else None
 
 -- NumbersSpent: the number that is to be opened is above 9,999
-abbrev pub spent : Placed → Option Refusal
-spent p = if is_opening p.intent && nat_lt 9999 p.event.etn then Some (refusal.NumbersSpent p.event.hazard) else None
+abbrev pub numbers_spent : Placed → Option Refusal
+numbers_spent p = if is_opening p.intent && nat_lt 9999 p.event.etn then Some (refusal.NumbersSpent p.event.hazard) else None
 
 -- TooManyLines: more than 2,000 of them
 abbrev pub too_many : ℕ → Option Refusal
@@ -216,18 +216,18 @@ abbrev pub rules : Category → List Row → ℕ → List Placed → List (Optio
 rules c rows t ps =
     no_intent ps
     ∷ first_by (not_open rows t) ps
-    ∷ first_by (gone rows t) ps
-    ∷ first_by (left rows t) ps
-    ∷ first_by (shared ps) ps
+    ∷ first_by (not_live rows t) ps
+    ∷ first_by (left_before rows t) ps
+    ∷ first_by (twice ps) ps
     ∷ first_by (bad_period t) ps
-    ∷ first_by (moved rows t) ps
+    ∷ first_by (begun_moved rows t) ps
     ∷ first_by open_end ps
     ∷ first_by needed_flood ps
     ∷ first_by barred_flood ps
     ∷ first_by (site_moved rows) ps
     ∷ option_map refused_clash (least_clash t (rows_taken rows t (planned_lines c rows t ps)))
-    ∷ first_by (held rows t) ps
-    ∷ first_by spent ps
+    ∷ first_by (number_held rows t) ps
+    ∷ first_by numbers_spent ps
     ∷ too_many (length (planned_lines c rows t ps))
     ∷ []
 

@@ -9,22 +9,22 @@ use Rattle.hazard_board.specs.Taken.{rows_taken}
 use Rattle.action_planner.specs.declared.rules.Rule.{Rule}
 use Rattle.action_planner.specs.declared.rules.Rule.TheVariants.{NoEvent, NotLive, LeftBefore, Twice, BadPeriod, BegunMoved, NoOpenEnd, FloodNeeded, FloodBarred, SiteMoved, NumberHeld, NumbersSpent}
 use Rattle.action_planner.specs.Placed.{Placed}
-use Rattle.action_planner.specs.Offences.{first_by, first_given, no_intent, not_open, gone, left, shared, bad_period, moved, open_end, needed_flood, barred_flood, site_moved, refused_clash, held, spent, too_many}
+use Rattle.action_planner.specs.Offences.{first_by, first_given, no_intent, not_open, not_live, left_before, twice, bad_period, begun_moved, open_end, needed_flood, barred_flood, site_moved, refused_clash, number_held, numbers_spent, too_many}
 
 -- what an intent is refused with under a rule
 abbrev pub offence : List Row → ℕ → List Placed → Rule → Placed → Option Refusal
 offence rows t all NoEvent p = not_open rows t p
-offence rows t all NotLive p = gone rows t p
-offence rows t all LeftBefore p = left rows t p
-offence rows t all Twice p = shared all p
+offence rows t all NotLive p = not_live rows t p
+offence rows t all LeftBefore p = left_before rows t p
+offence rows t all Twice p = twice all p
 offence rows t all BadPeriod p = bad_period t p
-offence rows t all BegunMoved p = moved rows t p
+offence rows t all BegunMoved p = begun_moved rows t p
 offence rows t all NoOpenEnd p = open_end p
 offence rows t all FloodNeeded p = needed_flood p
 offence rows t all FloodBarred p = barred_flood p
 offence rows t all SiteMoved p = site_moved rows p
-offence rows t all NumberHeld p = held rows t p
-offence rows t all NumbersSpent p = spent p
+offence rows t all NumberHeld p = number_held rows t p
+offence rows t all NumbersSpent p = numbers_spent p
 
 -- the first intent that offends against the first of these rules against which one does
 abbrev pub first_against : List Row → ℕ → List Placed → List Rule → Option Refusal

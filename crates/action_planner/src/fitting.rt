@@ -2,10 +2,9 @@
 ghost use Rattle.std.specs.Prelude.{◌≡◌, ◌≤◌, ◌↔◌, find, length, None, IsTrue};
 ghost use Rattle.std.specs.List.{All};
 ghost use Rattle.hazard_types.specs.Hazards.{facts_of};
-ghost use Rattle.action_planner.specs.Conditions.{AreOfKind, AreZones, IsFollowedBy, IsOpenedBy, MayHold};
+ghost use Rattle.action_planner.specs.Conditions.{AreOfKind, AreZones, MayHold};
 ghost use Rattle.action_planner.specs.Fitting.{of_other_kind, are_of_kind, opens_with, fits_target, fits_following, fits, is_before_first, ascend, stand_once, are_zones, may_hold};
 ghost use Rattle.action_planner.specs.Lines.{follows};
-ghost use Rattle.action_planner.specs.Standing.{IsKnown};
 
 use crate::lines::follows;
 use crate::placed::zones_of;
@@ -18,13 +17,6 @@ pub const MOST_INTENTS: usize = 64;
 
 /// The most zones of an intent.
 const MOST_ZONES: usize = 600;
-
-/// Whether the desk issues the hazard.
-pub fn is_known(hazard: &Hazard) -> bool
-    ensures { IsTrue result ↔ IsKnown hazard.now }
-{
-    facts(*hazard).is_some()
-}
 
 /// Whether the hazard is the desk's and the zone is not of its kind (county or forecast zone).
 fn of_other_kind(known: &Option<Facts>, zone: &Zone) -> bool
@@ -72,20 +64,6 @@ fn opens_with(category: Category, hazard: &Hazard) -> bool
         Some(known) => known.opens == category,
         None => false,
     }
-}
-
-/// Whether the desk issues the hazard and opens its events in this category.
-pub fn is_opened_by(category: Category, hazard: &Hazard) -> bool
-    ensures { IsTrue result ↔ IsOpenedBy category hazard.now }
-{
-    opens_with(category, hazard)
-}
-
-/// Whether the desk issues the hazard and follows its events in this category.
-pub fn is_followed_by(category: Category, hazard: &Hazard) -> bool
-    ensures { IsTrue result ↔ IsFollowedBy category hazard.now }
-{
-    follows(category, hazard)
 }
 
 fn fits_target(category: Category, target: &Target, zones: &[Zone]) -> bool
@@ -173,7 +151,7 @@ fn stand_once(zones: &[Zone]) -> bool
 }
 
 /// Whether there are 1 to 600 zones, all distinct.
-fn make_a_list(zones: &[Zone]) -> bool
+fn is_zone_list(zones: &[Zone]) -> bool
     ensures { result ≡ are_zones zones.now }
 {
     1 <= zones.len() && zones.len() <= MOST_ZONES && stand_once(zones)
@@ -185,13 +163,13 @@ fn make_a_list(zones: &[Zone]) -> bool
 pub fn are_zones(zones: &[Zone]) -> bool
     ensures { IsTrue result ↔ AreZones zones.now }
 {
-    make_a_list(zones)
+    is_zone_list(zones)
 }
 
 fn holds(category: Category, intent: &Intent) -> bool
     ensures { result ≡ may_hold category intent.now }
 {
-    fits(category, intent) && make_a_list(zones_of(intent))
+    fits(category, intent) && is_zone_list(zones_of(intent))
 }
 
 /// Whether a draft of the category may hold the intent: the desk issues its hazard in this

@@ -4,7 +4,7 @@ ghost use Rattle.event_life.specs.Products.{is_open};
 ghost use Rattle.hazard_board.specs.Consistent.{IsConsistent};
 ghost use Rattle.hazard_types.specs.Hazards.{facts_of};
 ghost use Rattle.action_planner.specs.Conditions.{needs_values, site_of};
-ghost use Rattle.action_planner.specs.Offences.{needs_event, not_open, is_bad_period, bad_period, may_stand_open, open_end, needed_flood, barred_flood, differs, other_site, moves_site, site_moved, holds, held_by, held, spent};
+ghost use Rattle.action_planner.specs.Offences.{needs_event, not_open, is_bad_period, bad_period, may_stand_open, open_end, needed_flood, barred_flood, differs, other_site, moves_site, site_moved, holds, held_by, number_held, numbers_spent};
 
 use crate::placed::{Placed, is_opening};
 use crate::puts::minute_of;
@@ -190,7 +190,7 @@ pub fn site_moved(board: &Board, p: &Placed) -> Option<Refusal>
 
 /// Returns the refusal NumberHeld if an open event of an earlier year has the event's hazard and
 /// number.
-fn number_held(board: &Board, t: Minute, event: &Event) -> Option<Refusal>
+fn number_held_for(board: &Board, t: Minute, event: &Event) -> Option<Refusal>
     requires { IsConsistent board.now.rows t }
     ensures { result ≡ option_map held_by (find (holds t event.now) board.now.rows) }
 {
@@ -205,20 +205,20 @@ fn number_held(board: &Board, t: Minute, event: &Event) -> Option<Refusal>
 /// NumberHeld: an open event of an earlier year has the number of the event that is to be opened.
 ///
 /// Source: NWS Instruction 10-1703, P-VTEC event tracking numbers; docs/DECISIONS.md, "Plans".
-pub fn held(board: &Board, t: Minute, p: &Placed) -> Option<Refusal>
+pub fn number_held(board: &Board, t: Minute, p: &Placed) -> Option<Refusal>
     requires { IsConsistent board.now.rows t }
-    ensures { result ≡ held board.now.rows t p.now }
+    ensures { result ≡ number_held board.now.rows t p.now }
 {
     if is_opening(p.intent) {
-        number_held(board, t, &p.event)
+        number_held_for(board, t, &p.event)
     } else {
         None
     }
 }
 
 /// NumbersSpent: the number of the event that is to be opened is above 9,999.
-pub fn spent(p: &Placed) -> Option<Refusal>
-    ensures { result ≡ spent p.now }
+pub fn numbers_spent(p: &Placed) -> Option<Refusal>
+    ensures { result ≡ numbers_spent p.now }
 {
     if is_opening(p.intent) && p.event.etn > 9999 {
         Some(Refusal::NumbersSpent {

@@ -116,7 +116,7 @@ pub fn nothing_stands_at_first()
 {}
 
 /// What holds between products at a minute holds at later ones.
-pub fn what_stands_stands_later()
+pub fn standing_conditions_persist()
     ensures { (rows : List Row) (counts : List Count) (t u : ℕ) →
         t ≤ u → Stands rows counts t → Stands rows counts u }
 {}

@@ -22,16 +22,13 @@ mod told_laws;
 mod zone_rules;
 
 pub use correcting::plan_correction;
-pub use fitting::{
-    MOST_INTENTS, are_zones, is_followed_by, is_known, is_opened_by, may_be_planned, may_hold,
-    wrong_kind,
-};
+pub use fitting::{MOST_INTENTS, are_zones, may_be_planned, may_hold, wrong_kind};
 pub use laws::{
     corrected_lines_are_distinct, corrections_keep_what_stands, new_lines_are_of_opened_events,
     nothing_stands_at_first, opened_events_are_drawn_in_order, opened_events_are_numbered_on,
     opened_events_stand_in_order, planned_lines_are_distinct, planned_lines_are_lawful,
     planned_lines_are_those_planned, planned_lines_open_where_no_row_stands,
-    plans_keep_what_stands, what_stands_stands_later,
+    plans_keep_what_stands, standing_conditions_persist,
 };
 pub use line_laws::{
     expiring_lines_end_at_a_minute, flood_lines_have_values, flood_values_are_those_given,

@@ -11,11 +11,12 @@ ghost use Rattle.action_planner.specs.Offences.{first_by, refused_clash, too_man
 ghost use Rattle.action_planner.specs.Rules.{offence, first_against, broken_early, broken_late};
 
 use crate::intent_rules::{
-    bad_period, barred_flood, held, needed_flood, not_open, open_end, site_moved, spent,
+    bad_period, barred_flood, needed_flood, not_open, number_held, numbers_spent, open_end,
+    site_moved,
 };
 use crate::placed::Placed;
 use crate::spoken::Spoken;
-use crate::zone_rules::{gone, left_before, moved, shared};
+use crate::zone_rules::{begun_moved, left_before, not_live, twice};
 use hazard_board::Board;
 use hazard_types::{Line, List, Minute, Oom};
 use office_types::Refusal;
@@ -63,17 +64,17 @@ fn offence(board: &Board, t: Minute, spoken: &Spoken, rule: Rule, p: &Placed) ->
 {
     match rule {
         Rule::NoEvent => not_open(board, t, p),
-        Rule::NotLive => gone(board, t, p),
+        Rule::NotLive => not_live(board, t, p),
         Rule::LeftBefore => left_before(board, t, p),
-        Rule::Twice => shared(spoken, p),
+        Rule::Twice => twice(spoken, p),
         Rule::BadPeriod => bad_period(t, p),
-        Rule::BegunMoved => moved(board, t, p),
+        Rule::BegunMoved => begun_moved(board, t, p),
         Rule::NoOpenEnd => open_end(p),
         Rule::FloodNeeded => needed_flood(p),
         Rule::FloodBarred => barred_flood(p),
         Rule::SiteMoved => site_moved(board, p),
-        Rule::NumberHeld => held(board, t, p),
-        Rule::NumbersSpent => spent(p),
+        Rule::NumberHeld => number_held(board, t, p),
+        Rule::NumbersSpent => numbers_spent(p),
     }
 }
 

@@ -4,7 +4,7 @@
 ghost use Rattle.std.specs.Prelude.{◌≡◌, ◌&&◌, not, nat_le};
 ghost use Rattle.event_life.specs.Periods.{is_live, keeps_open};
 ghost use Rattle.event_life.specs.Products.{row_at};
-ghost use Rattle.action_planner.specs.Offences.{has_row_by, is_gone, gone, joins_by, joins, was_left, left, is_shared, shared, is_moved, moved};
+ghost use Rattle.action_planner.specs.Offences.{has_row_by, is_gone, not_live, joins_by, joins, was_left, left_before, is_shared, twice, is_moved, begun_moved};
 
 use crate::placed::{Placed, zones_of};
 use crate::puts::minute_of;
@@ -110,8 +110,8 @@ fn is_moved(board: &Board, t: Minute, event: &Event, intent: &Intent, zone: &Zon
 }
 
 /// NotLive: a finish in a zone without an open row, or a restate in a zone without a live one.
-pub fn gone(board: &Board, t: Minute, p: &Placed) -> Option<Refusal>
-    ensures { result ≡ gone board.now.rows t p.now }
+pub fn not_live(board: &Board, t: Minute, p: &Placed) -> Option<Refusal>
+    ensures { result ≡ not_live board.now.rows t p.now }
 {
     let zone = zones_of(p.intent)
         .iter()
@@ -124,7 +124,7 @@ pub fn gone(board: &Board, t: Minute, p: &Placed) -> Option<Refusal>
 
 /// LeftBefore: a joining put in a zone with a row whose end has come and that no line has ended.
 pub fn left_before(board: &Board, t: Minute, p: &Placed) -> Option<Refusal>
-    ensures { result ≡ left board.now.rows t p.now }
+    ensures { result ≡ left_before board.now.rows t p.now }
 {
     let zone = zones_of(p.intent)
         .iter()
@@ -136,8 +136,8 @@ pub fn left_before(board: &Board, t: Minute, p: &Placed) -> Option<Refusal>
 }
 
 /// Twice: another intent is on the same event in the zone.
-pub fn shared(spoken: &Spoken, p: &Placed) -> Option<Refusal>
-    ensures { result ≡ shared spoken.now p.now }
+pub fn twice(spoken: &Spoken, p: &Placed) -> Option<Refusal>
+    ensures { result ≡ twice spoken.now p.now }
 {
     let zone = zones_of(p.intent)
         .iter()
@@ -149,8 +149,8 @@ pub fn shared(spoken: &Spoken, p: &Placed) -> Option<Refusal>
 }
 
 /// BegunMoved: a joining put that begins after `t`, on a live row that has begun.
-pub fn moved(board: &Board, t: Minute, p: &Placed) -> Option<Refusal>
-    ensures { result ≡ moved board.now.rows t p.now }
+pub fn begun_moved(board: &Board, t: Minute, p: &Placed) -> Option<Refusal>
+    ensures { result ≡ begun_moved board.now.rows t p.now }
 {
     let zone = zones_of(p.intent)
         .iter()

@@ -4,7 +4,7 @@ ghost use Rattle.program_ends.specs.Steps.{IsCauseOf};
 ghost use Rattle.archive_report.specs.Pieces.{Halts, Pages};
 
 use crate::lines::put_gap;
-use crate::page::turn;
+use crate::page::flush_if_full;
 use board_text::put_row;
 use byte_streams::Sink;
 use hazard_types::{Oom, Row, Text};
@@ -67,7 +67,7 @@ pub fn tell_entries<E: Entry, K: Sink>(
 {
     for entry in entries {
         entry.put(alloc, out)?;
-        turn(alloc, out, output)?;
+        flush_if_full(alloc, out, output)?;
     }
     Ok(())
 }

@@ -13,7 +13,7 @@ ghost use Rattle.archive_report.specs.Report.{life_line, lives_text, breach_line
 use crate::entries::tell_entries;
 use crate::lines::{put_breach, put_last, put_shown};
 use crate::lives::LastLife;
-use crate::page::{flush, turn};
+use crate::page::{flush, flush_if_full};
 use crate::tally::Tally;
 use crate::words::Asked;
 use byte_streams::Sink;
@@ -39,7 +39,7 @@ fn tell_life<K: Sink>(
         (K.outflow output.old).faults (K.outflow output.new).faults result }
 {
     last.put(alloc, out, life)?;
-    turn(alloc, out, output)
+    flush_if_full(alloc, out, output)
 }
 
 /// Adds the lives of an event.
@@ -121,7 +121,7 @@ fn tell_breaches<K: Sink>(
 {
     for found in breaches {
         put_breach(alloc, out, numbers, found)?;
-        turn(alloc, out, output)?;
+        flush_if_full(alloc, out, output)?;
     }
     Ok(())
 }

@@ -39,7 +39,7 @@ pub fn flush<K: Sink>(alloc: Global, out: &mut Text, output: &mut K) -> Result<(
 /// # Errors
 ///
 /// `Stop::Write` if a write failed; a prefix of the buffer was then written.
-pub fn turn<K: Sink>(alloc: Global, out: &mut Text, output: &mut K) -> Result<(), Stop>
+pub fn flush_if_full<K: Sink>(alloc: Global, out: &mut Text, output: &mut K) -> Result<(), Stop>
     ensures told { OnOk result (Pages (K.outflow output.old) (K.outflow output.new)
         out.old out.new []) }
     ensures halted { IfErr result (Halts (K.outflow output.old) (K.outflow output.new) out.old) }

@@ -82,7 +82,7 @@ fn next_when_due(
     match next_in(alloc, routes, bytes) {
         Some(next) => Some(next),
         None => {
-            *watch = Watch::behind(bytes);
+            *watch = Watch::after_check(bytes);
             None
         }
     }

@@ -62,7 +62,7 @@ impl Watch {
     /// Returns the watch after an unfinished call was judged: until its body may be complete, or,
     /// while its head is not whole, until the next line end, twice as many bytes, or the most bytes
     /// of a head.
-    pub fn behind(bytes: &[u8]) -> Self
+    pub fn after_check(bytes: &[u8]) -> Self
         requires { IsUnfinished bytes.now }
         ensures seen { result.seen ≡ length bytes.now }
         ensures waits { Waits result.from result.by_line bytes.now }

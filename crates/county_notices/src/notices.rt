@@ -142,7 +142,7 @@ impl Notices {
 impl Answers for Notices {
     ghost answers = { AnswersLine };
 
-    ghost lacks = { LacksLine };
+    ghost out_of_memory = { LacksLine };
 
     fn answer(&mut self, alloc: Global, line: Option<&[u8]>) -> Result<Reply, Oom> {
         let Some(line) = line else {

@@ -14,7 +14,7 @@ use desk_settings::SettingsFault;
 use desk_traits::{Disk, Failed};
 use hazard_types::{Oom, Text};
 use office_journal::{KeepFault, KeptOffice};
-use program_ends::{End, Stop, end_at_once, read_front, tell};
+use program_ends::{End, Stop, end_at_once, read_some, tell};
 use std::alloc::Global;
 
 /// The most bytes of a settings' file, and one more.
@@ -28,7 +28,7 @@ fn read_settings<S: Source>(alloc: Global, input: &mut S) -> Result<Text, Stop>
     let mut buffer = [0u8; 4096];
     for _turn in 0..ENOUGH {
         let room = (ENOUGH - text.len()).min(buffer.len());
-        let count = match read_front(input, &mut buffer, room) {
+        let count = match read_some(input, &mut buffer, room) {
             Ok(count) => count,
             Err(Failed) => return Err(Stop::Read),
         };

@@ -71,7 +71,7 @@ impl<'a, D: Disk, C: Clock> Answers for Script<'a, D, C> {
     ghost answers = { λ s line text next. HasReferences s next
         × Replies D.Disk C.Clock (scripted s) line text (scripted next) };
 
-    ghost lacks = { λ _ _ _. ⊥ };
+    ghost out_of_memory = { λ _ _ _. ⊥ };
 
     fn answer(&mut self, alloc: Global, line: Option<&[u8]>) -> Result<Reply, Oom> {
         let Some(bytes) = line else {

@@ -5,13 +5,13 @@ use Rattle.std.specs.Str.{bytes_eq}
 use Rattle.std.proofs.lemmas.Slice.Eq.{bytes_eq-Decides}
 use Rattle.office_core.specs.State.{State, last_number, said_in}
 use Rattle.office_core.specs.Step.{heard_after}
-use Rattle.office_core.specs.declared.heard.Heard.{Heard}
-use Rattle.office_core.specs.declared.heard.Said.{Said}
+use Rattle.office_core.specs.declared.heard.DeskRecord.{DeskRecord}
+use Rattle.office_core.specs.declared.heard.LastRequest.{LastRequest}
 use Rattle.desk_drill.specs.Office.{drill_desks}
 use Rattle.desk_drill.specs.Requests.{desk_at}
 
 -- what another desk was last answered stays
-said_step : (h : Heard) (heard : List Heard) (desk other : List ℕ) (said : Said) (b : Bool) → bytes_eq h.desk desk ≡ b → bytes_eq desk other ≡ false
+said_step : (h : DeskRecord) (heard : List DeskRecord) (desk other : List ℕ) (said : LastRequest) (b : Bool) → bytes_eq h.desk desk ≡ b → bytes_eq desk other ≡ false
     → said_in (heard_after heard desk said) other ≡ said_in heard other → said_in (heard_after (h ∷ heard) desk said) other ≡ said_in (h ∷ heard) other
 said_step h heard desk other said true e off rest =
     let same : h.desk ≡ desk = (bytes_eq-Decides h.desk desk).0 e in
@@ -21,9 +21,9 @@ said_step h heard desk other said true e off rest =
     ∙ sym (ap (λ (x : Bool). cond x h.said (said_in heard other)) away)
 said_step h heard desk other said false e off rest =
     ap (λ (x : Bool). said_in (cond x (record { desk = h.desk; said = Some said } ∷ heard) (h ∷ heard_after heard desk said)) other) e
-    ∙ ap (λ (x : Option Said). cond (bytes_eq h.desk other) h.said x) rest
+    ∙ ap (λ (x : Option LastRequest). cond (bytes_eq h.desk other) h.said x) rest
 
-pub said_other : (heard : List Heard) (desk other : List ℕ) (said : Said) → bytes_eq desk other ≡ false → said_in (heard_after heard desk said) other ≡ said_in heard other
+pub said_other : (heard : List DeskRecord) (desk other : List ℕ) (said : LastRequest) → bytes_eq desk other ≡ false → said_in (heard_after heard desk said) other ≡ said_in heard other
 said_other [] desk other said off = refl
 said_other (h ∷ heard) desk other said off = said_step h heard desk other said (bytes_eq h.desk desk) refl off (said_other heard desk other said off)
 

@@ -23,7 +23,7 @@ use Rattle.office_core.specs.Agreement.{ReadsAsTheBoard, product_in, products_in
 use Rattle.office_core.specs.Making.{broken_product, issued, made_of, products_full}
 use Rattle.office_core.specs.State.{State, first_state, last_number, last_of}
 use Rattle.office_core.specs.Step.{Accepts, Refuses, Repeats, entry_of, state_after}
-use Rattle.office_core.specs.declared.heard.Said.{Said}
+use Rattle.office_core.specs.declared.heard.LastRequest.{LastRequest}
 use Rattle.office_core.specs.declared.made.Made.{Made}
 use Rattle.desk_drill.specs.Keeping.{HasRead, HasReadOne, IsKept, drilled_of}
 use Rattle.desk_drill.specs.Office.{Answers, Drilled, drill_desks, drill_office, drill_settings, next_number}
@@ -118,7 +118,7 @@ read_more before now texts text had one =
 others_stay : (s next : State) (entry : Entry) (made : Option Made) (other : List ℕ) → next ≡ state_after s entry made → bytes_eq entry.desk other ≡ false → last_number next other ≡ last_number s other
 unfolding state_after
 others_stay s next entry made other is off =
-    let said : Said = record { seq = entry.seq; request = entry.request; reply = entry.reply } in
+    let said : LastRequest = record { seq = entry.seq; request = entry.request; reply = entry.reply } in
     ap (λ (x : State). last_number x other) is ∙ ap last_of (said_other s.heard entry.desk other said off)
 
 -- an entry of the desk at a place

@@ -130,7 +130,7 @@ fn hazard_at(place: u64) -> Hazard
 }
 
 /// The minute `count` minutes after 180101T0000Z.
-fn minute_behind(count: u32) -> Minute
+fn minute_after_start(count: u32) -> Minute
     requires { count ≤ 50000 }
     ensures { result ≡ 9468000 + count }
 {
@@ -163,7 +163,7 @@ fn part_of(alloc: Global, a: u64, b: u64, i: u32) -> Result<PutPart, Oom>
         target: Target::Fresh(hazard_at(a % 5)),
         zones,
         begin: Begin::Now,
-        end: End::At(minute_behind(5 * i + LASTING)),
+        end: End::At(minute_after_start(5 * i + LASTING)),
         flood: None,
         texts: no_texts(alloc),
     })
@@ -188,6 +188,6 @@ pub fn request_at(alloc: Global, i: u32, draws: &mut Draws) -> Result<DrillReque
     Ok(DrillRequest {
         desk: i % 4,
         part,
-        minute: minute_behind(5 * i),
+        minute: minute_after_start(5 * i),
     })
 }

@@ -138,7 +138,7 @@ impl TrainingDesk {
 impl Answers for TrainingDesk {
     ghost answers = { Replies };
 
-    ghost lacks = { Lacks };
+    ghost out_of_memory = { Lacks };
 
     fn answer(&mut self, alloc: Global, line: Option<&[u8]>) -> Result<Reply, Oom> {
         // What holds between lines comes to the proof by this read.

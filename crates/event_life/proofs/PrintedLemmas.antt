@@ -17,7 +17,7 @@ use Rattle.hazard_types.specs.declared.period.End.TheVariants.{At, Ufn}
 use Rattle.hazard_types.proofs.Equality.{event_one, event_itself, hazard_one, hazard_itself}
 use Rattle.event_life.specs.declared.life.Life.{Life}
 use Rattle.event_life.specs.declared.life.Around.{Around}
-use Rattle.event_life.specs.Periods.{keeps_open, ends_within}
+use Rattle.event_life.specs.Periods.{keeps_open, is_not_long_past}
 use Rattle.event_life.specs.Table.{breach_of_line, life_after, step}
 use Rattle.event_life.specs.Bounds.{IsBefore, IsLongBefore, IsNear, GoesOnFrom, Stays, EndsAsPrinted}
 use Rattle.event_life.specs.Products.{row_at, life_of, life_at, is_open, around_of, is_routine, is_new, later_event, going_in, end_of, line_of}
@@ -131,7 +131,7 @@ going_in-open rows t e one any =
 -- a lawful line that is not NEW is of an open event
 
 abbrev StandsOpen : ℕ → Life → Type 0
-StandsOpen t life = (life.ended ≡ false) × (ends_within life.period.end t ≡ true)
+StandsOpen t life = (life.ended ≡ false) × (is_not_long_past life.period.end t ≡ true)
 
 open_at : (rows : List Row) (t : ℕ) (e : Event) (z : Place) (o : Option Row) → row_at rows e z ≡ o → IsSomeAnd (option_map life_of o) (StandsOpen t) → is_open rows t e ≡ true
 open_at rows t e z None found h = absurd h
@@ -142,15 +142,15 @@ open_at rows t e z (Some r) found h =
 open_from : (rows : List Row) (t : ℕ) (line : Line) → IsSomeAnd (life_at rows line) (StandsOpen t) → is_open rows t line.event ≡ true
 open_from rows t line h = open_at rows t line.event line.zone (row_at rows line.event line.zone) refl h
 
-within_before : (t : ℕ) (end : End) → IsBefore t end → ends_within end t ≡ true
+within_before : (t : ℕ) (end : End) → IsBefore t end → is_not_long_past end t ≡ true
 within_before t (At m) h = le-leb t (m + 30) (omega arith)
 within_before t Ufn h = refl
 
-within_long_before : (t : ℕ) (end : End) → IsLongBefore t end → ends_within end t ≡ true
+within_long_before : (t : ℕ) (end : End) → IsLongBefore t end → is_not_long_past end t ≡ true
 within_long_before t (At m) h = le-leb t (m + 30) (omega arith)
 within_long_before t Ufn h = refl
 
-within_near : (t : ℕ) (end : End) → IsNear t end → ends_within end t ≡ true
+within_near : (t : ℕ) (end : End) → IsNear t end → is_not_long_past end t ≡ true
 within_near t (At m) h = le-leb t (m + 30) h.1
 within_near t Ufn h = absurd h
 

@@ -11,9 +11,9 @@ ends_after (At m) t = nat_lt t m
 ends_after Ufn t = true
 
 -- the end is at most half an hour before this minute, or after it
-abbrev pub ends_within : End → ℕ → Bool
-ends_within (At m) t = nat_le t (m + 30)
-ends_within Ufn t = true
+abbrev pub is_not_long_past : End → ℕ → Bool
+is_not_long_past (At m) t = nat_le t (m + 30)
+is_not_long_past Ufn t = true
 
 abbrev pub same_end : End → End → Bool
 same_end (At m) (At n) = m == n
@@ -35,4 +35,4 @@ is_live t row = not row.ended && ends_after row.period.end t
 
 -- no line has ended the row, and its end is at most half an hour past
 abbrev pub keeps_open : ℕ → Row → Bool
-keeps_open t row = not row.ended && ends_within row.period.end t
+keeps_open t row = not row.ended && is_not_long_past row.period.end t

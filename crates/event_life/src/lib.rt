@@ -1,7 +1,7 @@
 //! The life of an event in a zone: which lines are lawful, and what they leave.
 //!
-//! For crates that judge the lines of products, read or planned. One begins with `line_of`, `judge`
-//! and `rows_after`; `life_step` is the table of lawful steps for one event in one zone.
+//! For crates that judge the lines of products, read or planned. One begins with `line_of` and
+//! `judge`; `life_step` is the table of lawful steps for one event in one zone.
 #![tactic(auto)]
 
 mod judging;
@@ -22,10 +22,9 @@ pub use laws::{
 };
 pub use life::{Around, Breach, Life, life_step};
 pub use openings::{Gap, gaps, opened_by};
-pub use periods::{ends_after, ends_within, is_live, keeps_open, overlaps, same_at, same_end};
+pub use periods::{ends_after, is_live, is_not_long_past, keeps_open, overlaps, same_at, same_end};
 pub use putting::{
-    end_upgraded, is_lawful, is_routine, is_upgrade, may_count, put, row_after, row_of, rows_after,
-    shown,
+    end_upgraded, is_routine, is_upgrade, leaves_row, may_count, put, row_after, row_of, shown,
 };
 pub use rows::{
     around, event_of, going_in, has_period, has_rows, has_same, is_held, is_open, life_at,

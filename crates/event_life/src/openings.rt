@@ -6,7 +6,7 @@ ghost use Rattle.event_life.specs.Openings.{add_event, opened_by, gaps_from};
 ghost use Rattle.event_life.specs.Products.{is_new, lawful_of};
 
 use crate::life::Breach;
-use crate::putting::is_lawful;
+use crate::putting::leaves_row;
 use hazard_types::{Action, Event, Hazard, Line, List, Oom};
 use std::alloc::Global;
 use std::collections::{BTreeMap, BTreeSet};
@@ -47,7 +47,7 @@ pub fn opened_by(alloc: Global, judged: &[(Line, Option<Breach>)]) -> Result<Lis
     let mut events = BTreeSet::new(alloc);
     for place in (0..judged.len()).rev() {
         let found = &judged[place];
-        if is_lawful(found) && is_new(&found.0.action) {
+        if leaves_row(found) && is_new(&found.0.action) {
             add_event(&mut events, &found.0.event)?;
         }
     }

@@ -1,6 +1,6 @@
 //! Periods and rows at a minute.
 ghost use Rattle.std.specs.Prelude.{◌≡◌};
-ghost use Rattle.event_life.specs.Periods.{ends_after, ends_within, same_end, overlaps, same_at, is_live, keeps_open};
+ghost use Rattle.event_life.specs.Periods.{ends_after, is_not_long_past, same_end, overlaps, same_at, is_live, keeps_open};
 
 use hazard_types::{End, Minute, Period, Row};
 
@@ -15,8 +15,8 @@ pub fn ends_after(end: &End, t: Minute) -> bool
 }
 
 /// Whether `end` is at most half an hour before `t`, or not before it.
-pub fn ends_within(end: &End, t: Minute) -> bool
-    ensures { result ≡ ends_within end.now t }
+pub fn is_not_long_past(end: &End, t: Minute) -> bool
+    ensures { result ≡ is_not_long_past end.now t }
 {
     match end {
         End::At(minute) => t.get() <= minute.get() + 30,
@@ -71,5 +71,5 @@ pub fn is_live(row: &Row, t: Minute) -> bool
 pub fn keeps_open(row: &Row, t: Minute) -> bool
     ensures { result ≡ keeps_open t row.now }
 {
-    !row.ended && ends_within(&row.period.end, t)
+    !row.ended && is_not_long_past(&row.period.end, t)
 }

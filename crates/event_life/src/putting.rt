@@ -1,7 +1,7 @@
 //! The rows after the lines of a product.
 ghost use Rattle.std.specs.Prelude.{◌≡◌, ◌≤◌, ◌<◌, ◌&&◌, not, [], length, map, is_none, IfOk, OnOk, OnErr};
 ghost use Rattle.std.specs.Vec.{vec_capacity};
-ghost use Rattle.event_life.specs.Products.{by_key, put, row_of, row_after, is_routine, is_upgrade, speaks_of, is_second, put_but_upgrades, rows_for_higher, lawful_of, put_all};
+ghost use Rattle.event_life.specs.Products.{by_key, put, row_of, row_after, is_routine, is_upgrade, speaks_of, is_second, put_but_upgrades, rows_for_higher};
 ghost use Rattle.event_life.specs.Seats.{seated, IsSeat, is_upgraded, end_if_upgraded, may_count};
 ghost use Rattle.event_life.specs.Shown.{shown_at};
 
@@ -86,7 +86,7 @@ pub(crate) fn is_second(earlier: &[Line], line: &Line) -> bool
 }
 
 /// Whether a line that was judged has no breach and is not ROU.
-pub fn is_lawful(judged: &(Line, Option<Breach>)) -> bool
+pub fn leaves_row(judged: &(Line, Option<Breach>)) -> bool
     ensures { result ≡ (not (is_routine judged.now.0.action) && is_none judged.now.1) }
 {
     let (line, breach) = judged;
@@ -189,30 +189,6 @@ pub(crate) fn rows_for_higher(
 {
     let after = put_but_upgrades(alloc, rows, t, lines)?;
     Ok(end_upgraded(alloc, lines, &after)?)
-}
-
-/// Returns the rows after a product, by zone, then event. `rows` are those just before it, and
-/// `judged` are its lines with their breaches: a lawful line leaves its row, and no other line
-/// changes one.
-///
-/// # Errors
-///
-/// Out of memory.
-pub fn rows_after(
-    alloc: Global,
-    rows: &[Row],
-    t: Minute,
-    judged: &[(Line, Option<Breach>)],
-) -> Result<List<Row>, Oom>
-    ensures { IfOk result (λ after. after ≡ put_all rows.now t (lawful_of judged.now) rows.now) }
-{
-    let mut after = Vec::from_slice(alloc, rows)?;
-    for found in judged {
-        if is_lawful(found) {
-            put(&mut after, &row_after(rows, t, &found.0))?;
-        }
-    }
-    Ok(List::from_vec(after))
 }
 
 /// Returns the rows that are live at `t`.

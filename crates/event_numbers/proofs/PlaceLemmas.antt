@@ -13,7 +13,7 @@ use Rattle.hazard_types.specs.declared.hazard.Hazard.{Hazard}
 use Rattle.hazard_types.proofs.Equality.{hazard_one, hazard_itself}
 use Rattle.hazard_types.proofs.OrderLaws.{by_hazard_total, by_hazard_ties}
 use Rattle.event_numbers.specs.declared.Count.{Count}
-use Rattle.event_numbers.specs.Counts.{is_count_of, by_count, against, IsPlaceOf, IsGapFor}
+use Rattle.event_numbers.specs.Counts.{is_count_of, by_count, cmp_key, IsPlaceOf, IsGapFor}
 
 by_count_total : IsTotalOrder by_count
 by_count_total = then_total (on_total (λ (c : Count). c.hazard) by_hazard_total) (on_total (λ (c : Count). c.year) nat_cmp_total)
@@ -53,16 +53,16 @@ both_tied Less q = refl
 both_tied Equal q = refl
 both_tied Greater q = refl
 
-tied : (h : Hazard) (y : ℕ) (c : Count) → is_eq (against h y c) ≡ is_count_of h y c
+tied : (h : Hazard) (y : ℕ) (c : Count) → is_eq (cmp_key h y c) ≡ is_count_of h y c
 tied h y c =
     both_tied (by_hazard c.hazard h) (nat_cmp c.year y)
     ∙ ap (λ (b : Bool). b && is_eq (nat_cmp c.year y)) (hazard_tied c.hazard h)
     ∙ ap (λ (b : Bool). same_hazard c.hazard h && b) (number_tied c.year y)
 
-not_less : (h : Hazard) (y : ℕ) (c : Count) → against h y c ≡ Less → is_count_of h y c ≡ false
+not_less : (h : Hazard) (y : ℕ) (c : Count) → cmp_key h y c ≡ Less → is_count_of h y c ≡ false
 not_less h y c less = sym (tied h y c) ∙ ap is_eq less
 
-not_greater : (h : Hazard) (y : ℕ) (c : Count) → against h y c ≡ Greater → is_count_of h y c ≡ false
+not_greater : (h : Hazard) (y : ℕ) (c : Count) → cmp_key h y c ≡ Greater → is_count_of h y c ≡ false
 not_greater h y c more = sym (tied h y c) ∙ ap is_eq more
 
 -- order by index
@@ -83,20 +83,20 @@ module _ (h : Hazard) (y : ℕ) where
   abbrev key : Count
   key = record { hazard = h; year = y; count = 0 }
 
-  keeps_less : (a b : Count) → by_count a b ≡ Less → is_lt (against h y b) ≡ true → is_lt (against h y a) ≡ true
-  keeps_less a b less lt = ap is_lt (by_count_total.trans a b key less (is_less (against h y b) lt))
+  keeps_less : (a b : Count) → by_count a b ≡ Less → is_lt (cmp_key h y b) ≡ true → is_lt (cmp_key h y a) ≡ true
+  keeps_less a b less lt = ap is_lt (by_count_total.trans a b key less (is_less (cmp_key h y b) lt))
 
-  part_step : (cs : List Count) (i j : ℕ) (d : Count) → IsStrictlySortedBy by_count cs → j < length cs → (i ≡ j) ⊎ (i < j) → is_lt (against h y (get_or cs j d)) ≡ true → is_lt (against h y (get_or cs i d)) ≡ true
-  part_step cs i j d up within (inl same) lt = subst (λ (k : ℕ). is_lt (against h y (get_or cs k d)) ≡ true) (sym same) lt
+  part_step : (cs : List Count) (i j : ℕ) (d : Count) → IsStrictlySortedBy by_count cs → j < length cs → (i ≡ j) ⊎ (i < j) → is_lt (cmp_key h y (get_or cs j d)) ≡ true → is_lt (cmp_key h y (get_or cs i d)) ≡ true
+  part_step cs i j d up within (inl same) lt = subst (λ (k : ℕ). is_lt (cmp_key h y (get_or cs k d)) ≡ true) (sym same) lt
   part_step cs i j d up within (inr less) lt = keeps_less (get_or cs i d) (get_or cs j d) (in_order cs i j d up less within) lt
 
-  pub parted : (cs : List Count) → IsStrictlySortedBy by_count cs → IsPartitionedBy (λ c. is_lt (against h y c)) cs
+  pub parted : (cs : List Count) → IsStrictlySortedBy by_count cs → IsPartitionedBy (λ c. is_lt (cmp_key h y c)) cs
   parted cs up i j d le within lt = part_step cs i j d up within (eq-or-lt_of_le le) lt
 
   turned : (a b : Count) (o : Ordering) → by_count a b ≡ o → by_count b a ≡ ordering_reverse o
   turned a b o e = by_count_total.antisymm b a ∙ ap ordering_reverse e
 
-  keeps_greater : (a b : Count) → by_count a b ≡ Less → against h y a ≡ Greater → against h y b ≡ Greater
+  keeps_greater : (a b : Count) → by_count a b ≡ Less → cmp_key h y a ≡ Greater → cmp_key h y b ≡ Greater
   keeps_greater a b less more = turned key b Less (by_count_total.trans key a b (turned a key Greater more) less)
 
   default_free : (cs : List Count) (i : ℕ) (c d : Count) → i < length cs → get_or cs i c ≡ get_or cs i d
@@ -104,11 +104,11 @@ module _ (h : Hazard) (y : ℕ) where
   default_free (x ∷ cs) zero c d within = refl
   default_free (x ∷ cs) (suc i) c d within = default_free cs i c d (omega (arith, within))
 
-  module _ (cs : List Count) (i : ℕ) (below : (k : ℕ) (d : Count) → 0 ≤ k → k < i → is_lt (against h y (get_or cs k d)) ≡ true) (above : (k : ℕ) (d : Count) → i ≤ k → k < length cs → is_lt (against h y (get_or cs k d)) ≡ false) where
-    less_below : (k : ℕ) (d : Count) → k < i → against h y (get_or cs k d) ≡ Less
-    less_below k d lt = is_less (against h y (get_or cs k d)) (below k d (omega arith) lt)
+  module _ (cs : List Count) (i : ℕ) (below : (k : ℕ) (d : Count) → 0 ≤ k → k < i → is_lt (cmp_key h y (get_or cs k d)) ≡ true) (above : (k : ℕ) (d : Count) → i ≤ k → k < length cs → is_lt (cmp_key h y (get_or cs k d)) ≡ false) where
+    less_below : (k : ℕ) (d : Count) → k < i → cmp_key h y (get_or cs k d) ≡ Less
+    less_below k d lt = is_less (cmp_key h y (get_or cs k d)) (below k d (omega arith) lt)
 
-    pub place_there : (x : Count) → i < length cs → x ≡ get_or cs i x → is_eq (against h y x) ≡ true → IsPlaceOf h y cs i
+    pub place_there : (x : Count) → i < length cs → x ≡ get_or cs i x → is_eq (cmp_key h y x) ≡ true → IsPlaceOf h y cs i
     place_there x within is own = record {
       within = within;
       found = λ d. ap (is_count_of h y) (default_free cs i d x within ∙ sym is) ∙ sym (tied h y x) ∙ own;
@@ -118,16 +118,16 @@ module _ (h : Hazard) (y : ℕ) where
     pub gap_behind : i ≤ length cs → length cs ≤ i → IsGapFor h y cs i
     gap_behind within past = record { within = within; below = less_below; above = λ k d le lt. absurd (omega (arith, le, lt, past)) }
 
-    greater_step : (k : ℕ) (d : Count) → IsStrictlySortedBy by_count cs → k < length cs → against h y (get_or cs i d) ≡ Greater → (i ≡ k) ⊎ (i < k) → against h y (get_or cs k d) ≡ Greater
-    greater_step k d up within first (inl same) = subst (λ (j : ℕ). against h y (get_or cs j d) ≡ Greater) same first
+    greater_step : (k : ℕ) (d : Count) → IsStrictlySortedBy by_count cs → k < length cs → cmp_key h y (get_or cs i d) ≡ Greater → (i ≡ k) ⊎ (i < k) → cmp_key h y (get_or cs k d) ≡ Greater
+    greater_step k d up within first (inl same) = subst (λ (j : ℕ). cmp_key h y (get_or cs j d) ≡ Greater) same first
     greater_step k d up within first (inr less) = keeps_greater (get_or cs i d) (get_or cs k d) (in_order cs i k d up less within) first
 
-    pub gap_before : IsStrictlySortedBy by_count cs → (x : Count) → i < length cs → x ≡ get_or cs i x → is_eq (against h y x) ≡ false → IsGapFor h y cs i
+    pub gap_before : IsStrictlySortedBy by_count cs → (x : Count) → i < length cs → x ≡ get_or cs i x → is_eq (cmp_key h y x) ≡ false → IsGapFor h y cs i
     gap_before up x within is other = record {
       within = omega (arith, within);
       below = less_below;
       above = λ k d le lt.
-          let first : against h y (get_or cs i d) ≡ Greater = is_greater (against h y (get_or cs i d)) (above i d (omega arith) within) (ap (λ (c : Count). is_eq (against h y c)) (default_free cs i d x within ∙ sym is) ∙ other) in
+          let first : cmp_key h y (get_or cs i d) ≡ Greater = is_greater (cmp_key h y (get_or cs i d)) (above i d (omega arith) within) (ap (λ (c : Count). is_eq (cmp_key h y c)) (default_free cs i d x within ∙ sym is) ∙ other) in
           greater_step k d up lt first (eq-or-lt_of_le le);
     }
 

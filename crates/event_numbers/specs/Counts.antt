@@ -48,8 +48,8 @@ abbrev pub by_count : Count → Count → Ordering
 by_count = then_cmp (on (λ (c : Count). c.hazard) by_hazard) (on (λ (c : Count). c.year) nat_cmp)
 
 -- how a count stands against a hazard and year
-abbrev pub against : Hazard → ℕ → Count → Ordering
-against h year c = ordering_then (by_hazard c.hazard h) (nat_cmp c.year year)
+abbrev pub cmp_key : Hazard → ℕ → Count → Ordering
+cmp_key h year c = ordering_then (by_hazard c.hazard h) (nat_cmp c.year year)
 
 -- the count of a hazard and year stands at the place
 pub record IsPlaceOf (h : Hazard) (year : ℕ) (counts : List Count) (i : ℕ) : Type 0 where
@@ -60,5 +60,5 @@ pub record IsPlaceOf (h : Hazard) (year : ℕ) (counts : List Count) (i : ℕ) :
 -- there is none, and it belongs at the place
 pub record IsGapFor (h : Hazard) (year : ℕ) (counts : List Count) (i : ℕ) : Type 0 where
   pub within : i ≤ length counts
-  pub below : (k : ℕ) (d : Count) → k < i → against h year (slice_index_or counts k d) ≡ Less
-  pub above : (k : ℕ) (d : Count) → i ≤ k → k < length counts → against h year (slice_index_or counts k d) ≡ Greater
+  pub below : (k : ℕ) (d : Count) → k < i → cmp_key h year (slice_index_or counts k d) ≡ Less
+  pub above : (k : ℕ) (d : Count) → i ≤ k → k < length counts → cmp_key h year (slice_index_or counts k d) ≡ Greater

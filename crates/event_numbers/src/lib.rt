@@ -7,7 +7,7 @@
 ghost use Rattle.std.specs.Prelude.{◌≡◌, ◌+◌, ◌<◌, ◌≤◌, [], length, true, false, IfOk, IfErr, OnOk, OnErr};
 ghost use Rattle.std.specs.List.Sorted.{IsStrictlySortedBy, IsPartitionPoint};
 ghost use Rattle.std.specs.Ordering.{is_lt};
-ghost use Rattle.event_numbers.specs.Counts.{count_of, by_count, against, IsPlaceOf, IsGapFor, DrawsOne, DrawsAll, AreDrawnInOrder, AreNumbers};
+ghost use Rattle.event_numbers.specs.Counts.{count_of, by_count, cmp_key, IsPlaceOf, IsGapFor, DrawsOne, DrawsAll, AreDrawnInOrder, AreNumbers};
 
 use hazard_types::{Event, Hazard, Oom};
 use std::alloc::Global;
@@ -47,8 +47,8 @@ impl Model for Numbers {
 }
 
 /// Compares the key of a count with a hazard and year.
-fn against(count: &Count, h: &Hazard, year: u16) -> Ordering
-    ensures { result ≡ against h.now year count.now }
+fn cmp_key(count: &Count, h: &Hazard, year: u16) -> Ordering
+    ensures { result ≡ cmp_key h.now year count.now }
 {
     count.hazard.cmp(h).then(count.year.cmp(&year))
 }
@@ -57,13 +57,13 @@ fn against(count: &Count, h: &Hazard, year: u16) -> Ordering
 fn counts_before(counted: &[Count], h: &Hazard, year: u16) -> usize
     requires { IsStrictlySortedBy by_count counted.now }
     ensures bound { result ≤ length counted.now }
-    ensures point { IsPartitionPoint (λ c. is_lt (against h.now year c) ≡ true)
-        (λ c. is_lt (against h.now year c) ≡ false) counted.now result }
+    ensures point { IsPartitionPoint (λ c. is_lt (cmp_key h.now year c) ≡ true)
+        (λ c. is_lt (cmp_key h.now year c) ≡ false) counted.now result }
 {
     counted.partition_point(
         |count: &Count| -> bool
-            ensures { result ≡ is_lt (against h.entry.now year count.now) }
-        { against(count, h, year).is_lt() },
+            ensures { result ≡ is_lt (cmp_key h.entry.now year count.now) }
+        { cmp_key(count, h, year).is_lt() },
     )
 }
 
@@ -79,7 +79,7 @@ fn place_of(counted: &[Count], h: &Hazard, year: u16) -> Result<usize, usize>
         return Err(place);
     }
     let found = &counted[place];
-    if against(found, h, year).is_eq() {
+    if cmp_key(found, h, year).is_eq() {
         Ok(place)
     } else {
         Err(place)

@@ -6,7 +6,7 @@ ghost use Rattle.event_life.specs.Products.{rows_of};
 ghost use Rattle.event_life.specs.Shown.{shown_at};
 ghost use Rattle.product_decoder.specs.Decoded.{decoded_of};
 ghost use Rattle.product_decoder.specs.ReaderModel.{product_of};
-ghost use Rattle.row_index.specs.Verdicts.{spelled, AreApart, AreFound};
+ghost use Rattle.row_index.specs.Verdicts.{expand, AreApart, AreFound};
 ghost use Rattle.follow_core.specs.Hearing.{place_of, answer_to, having_heard};
 ghost use Rattle.follow_core.specs.Schedule.{Event, Delivered, run, begun, answer_at, HasLostNothing};
 
@@ -89,7 +89,7 @@ impl Follower {
     /// Takes a product by its frame, and its lines as they were judged by the rows before it.
     fn keep(&mut self, alloc: Global, frame: &Frame, judged: &[Run]) -> Result<(), Oom>
         requires few { place_of self.old < 8192 }
-        requires judged { spelled judged.now ≡ judged_product (rows_of self.old.products)
+        requires judged { expand judged.now ≡ judged_product (rows_of self.old.products)
             (product_of self.old.office self.old.class (decoded_of frame.now)) }
         requires found { AreFound (rows_of self.old.products) judged.now }
         requires apart { AreApart judged.now }

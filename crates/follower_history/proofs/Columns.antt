@@ -6,7 +6,7 @@ use Rattle.std.proofs.lemmas.Bool.{and_parts, cases_Bool, eqb-true}
 use Rattle.std.proofs.lemmas.List.Elements.{All-from_recursion, recursion_from_All}
 use Rattle.hazard_types.specs.Characters.{is_office}
 use Rattle.hazard_types.specs.Codes.{value_beside}
-use Rattle.hazard_types.specs.Hazards.{DeskHazard, beside, desk_hazards, fact_rows, facts_of}
+use Rattle.hazard_types.specs.Hazards.{DeskHazard, value_of, desk_hazards, fact_rows, facts_of}
 use Rattle.hazard_types.specs.Places.{Place, IsPlace, are_letters}
 use Rattle.hazard_types.specs.Same.{same_hazard}
 use Rattle.hazard_types.specs.Tables.{cause_rows}
@@ -79,7 +79,7 @@ unfolding cause_rows
 cause_two text h = two_from text (cause_in cause_rows text text refl h)
 
 hazard_in : (rows : List DeskHazard) (h : Hazard) → list_all (λ (d : DeskHazard). are_two d.hazard.phen) rows ≡ true
-    → IsSome (beside (map (λ (d : DeskHazard). (d.hazard, d.facts)) rows) h) → are_two h.phen ≡ true
+    → IsSome (value_of (map (λ (d : DeskHazard). (d.hazard, d.facts)) rows) h) → are_two h.phen ≡ true
 hazard_in [] h all is = cc
 hazard_in (d ∷ rows) h all is =
     let p = and_parts (are_two d.hazard.phen) _ all in

@@ -7,13 +7,13 @@ use Rattle.hazard_types.specs.Same.{same_hazard}
 use Rattle.hazard_types.specs.declared.line.Row.{Row}
 use Rattle.hazard_types.specs.declared.period.End.{End}
 use Rattle.hazard_types.specs.declared.period.End.TheVariants.{At, Ufn}
-use Rattle.event_life.specs.Periods.{ends_within, keeps_open}
+use Rattle.event_life.specs.Periods.{is_not_long_past, keeps_open}
 use Rattle.hazard_board.specs.Consistent.{share_number, EachToLater, IsConsistent}
 
 both_hold : (a b : Bool) → a ≡ true → b ≡ true → (a && b) ≡ true
 both_hold a b p q = cc
 
-was_within : (end : End) (t u : ℕ) → t ≤ u → ends_within end u ≡ true → ends_within end t ≡ true
+was_within : (end : End) (t u : ℕ) → t ≤ u → is_not_long_past end u ≡ true → is_not_long_past end t ≡ true
 was_within (At m) t u le h = grind (arith, nat_tests)
 was_within Ufn t u le h = h
 

@@ -15,7 +15,7 @@ use Rattle.hazard_types.specs.declared.period.End.{End}
 use Rattle.hazard_types.specs.declared.period.End.TheVariants.{At, Ufn}
 use Rattle.hazard_types.proofs.Equality.{event_one, event_itself, hazard_one, hazard_itself}
 use Rattle.hazard_types.proofs.OrderLaws.{by_event_total}
-use Rattle.event_life.specs.Periods.{ends_within, keeps_open}
+use Rattle.event_life.specs.Periods.{is_not_long_past, keeps_open}
 use Rattle.event_life.specs.Products.{is_open, later_event, going_in}
 use Rattle.hazard_board.specs.Standing.{later, later_than, stands_for, latest_end, by_standing, end_in, of_hazard, of_number, last_open, AreStanding, AreStandingOf}
 use Rattle.hazard_board.specs.declared.standing.Standing.{Standing}
@@ -26,14 +26,14 @@ use Rattle.hazard_board.proofs.StandingLemmas.{end_cons}
 
 abbrev pub open_by : ℕ → Option End → Bool
 open_by t None = false
-open_by t (Some end) = ends_within end t
+open_by t (Some end) = is_not_long_past end t
 
-within_later : (a b : End) (t : ℕ) → ends_within (later a b) t ≡ (ends_within a t || ends_within b t)
+within_later : (a b : End) (t : ℕ) → is_not_long_past (later a b) t ≡ (is_not_long_past a t || is_not_long_past b t)
 within_later (At m) (At n) t = grind (arith, nat_tests)
 within_later (At m) Ufn t = grind (arith, nat_tests)
 within_later Ufn b t = refl
 
-open_later : (t : ℕ) (best : Option End) (end : End) → ends_within (later_than best end) t ≡ (open_by t best || ends_within end t)
+open_later : (t : ℕ) (best : Option End) (end : End) → is_not_long_past (later_than best end) t ≡ (open_by t best || is_not_long_past end t)
 open_later t None end = refl
 open_later t (Some best) end = within_later best end t
 
@@ -267,7 +267,7 @@ abbrev event_of : Standing → Event
 event_of s = s.event
 
 abbrev open_now : ℕ → Standing → Bool
-open_now t s = ends_within s.latest t
+open_now t s = is_not_long_past s.latest t
 
 other_above : (t : ℕ) (e : Event) (standing : List Standing) → AllByRecursion (λ s. by_event e s.event ≡ Less) standing → list_any (λ s. same_event s.event e && open_now t s) standing ≡ false
 other_above t e [] all = refl

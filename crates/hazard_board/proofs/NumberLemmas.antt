@@ -14,7 +14,7 @@ use Rattle.hazard_types.specs.declared.period.End.{End}
 use Rattle.hazard_types.specs.declared.period.End.TheVariants.{At, Ufn}
 use Rattle.hazard_types.proofs.Equality.{event_one, hazard_one, hazard_itself}
 use Rattle.event_life.specs.Bounds.{IsBefore}
-use Rattle.event_life.specs.Periods.{ends_within, keeps_open}
+use Rattle.event_life.specs.Periods.{is_not_long_past, keeps_open}
 use Rattle.event_life.specs.Printed.{IsOneEvent, HasOneOpen}
 use Rattle.event_life.specs.Products.{by_key, is_open, is_held, rows_after}
 use Rattle.event_life.proofs.Keys.{key_exact}
@@ -40,7 +40,7 @@ stays_behind rows t u le h = all_of (λ (row : Row). row.event.year ≤ year_of 
 event_is : (d e : Event) → d.hazard ≡ e.hazard → d.etn ≡ e.etn → d.year ≡ e.year → d ≡ e
 event_is d e h n y = λ i. record { hazard = h i; etn = n i; year = y i }
 
-within_before : (end : End) (t : ℕ) → IsBefore t end → ends_within end t ≡ true
+within_before : (end : End) (t : ℕ) → IsBefore t end → is_not_long_past end t ≡ true
 within_before (At m) t h = le-leb t (m + 30) (omega (arith, h))
 within_before Ufn t h = refl
 

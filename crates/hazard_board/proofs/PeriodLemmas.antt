@@ -19,7 +19,7 @@ use Rattle.hazard_types.specs.declared.period.End.TheVariants.{At, Ufn}
 use Rattle.hazard_types.specs.declared.period.Period.{Period}
 use Rattle.hazard_types.proofs.Equality.{event_one, event_itself, zone_itself, period_one}
 use Rattle.hazard_types.proofs.OrderLaws.{by_end_total, by_end_ties, end_cmp_is, numbers_tied}
-use Rattle.event_life.specs.Periods.{ends_after, ends_within, same_end, same_at}
+use Rattle.event_life.specs.Periods.{ends_after, is_not_long_past, same_end, same_at}
 use Rattle.event_life.specs.Products.{by_key, placed, put, row_at, row_of, is_open, is_routine}
 use Rattle.event_life.specs.declared.life.Breach.{Breach}
 use Rattle.event_life.specs.declared.life.Life.{Life}
@@ -373,7 +373,7 @@ module _ {X : Type 0} (R : X → X → Ordering) (tied q : X → Bool) (down : (
 not_above : (n m : ℕ) → nat_cmp n m ≢ Greater → n ≤ m
 not_above n m h = grind (arith, nat_tests, h)
 
-later_within : (a b : End) (t : ℕ) → later_first a b ≢ Greater → ends_within b t ≡ true → ends_within a t ≡ true
+later_within : (a b : End) (t : ℕ) → later_first a b ≢ Greater → is_not_long_past b t ≡ true → is_not_long_past a t ≡ true
 later_within Ufn b t h g = refl
 later_within (At m) Ufn t h g = absurd (h refl)
 later_within (At m) (At n) t h g = le-leb t (m + 30) (let le = leb-true t (n + 30) g in let o = not_above n m h in omega (arith, le, o))
@@ -384,7 +384,7 @@ event_of_tied x y e less own other =
     let rest : ordering_then (later_first x.period.end y.period.end) (nat_cmp x.period.begin y.period.begin) ≡ Less = rw same at less in
     first_less (later_first x.period.end y.period.end) _ rest
 
-found_open : (t : ℕ) (o : Option PeriodCount) → passes (λ (x : PeriodCount). ends_within x.period.end t) o ≡ open_by t (option_map (λ (x : PeriodCount). x.period.end) o)
+found_open : (t : ℕ) (o : Option PeriodCount) → passes (λ (x : PeriodCount). is_not_long_past x.period.end t) o ≡ open_by t (option_map (λ (x : PeriodCount). x.period.end) o)
 found_open t None = refl
 found_open t (Some x) = refl
 
@@ -396,10 +396,10 @@ swap_and false false c = refl
 latest_open : (rows : List Row) (periods : List PeriodCount) → AreCounted rows periods → (e : Event) (t : ℕ) → open_by t (latest_in periods e) ≡ is_open rows t e
 latest_open rows periods are e t =
     sym (found_open t (find (λ (x : PeriodCount). same_event x.event e) periods))
-    ∙ sym (first_decides by_period (λ (x : PeriodCount). same_event x.event e) (λ (x : PeriodCount). ends_within x.period.end t)
+    ∙ sym (first_decides by_period (λ (x : PeriodCount). same_event x.event e) (λ (x : PeriodCount). is_not_long_past x.period.end t)
     (λ x y less own other h. later_within x.period.end y.period.end t (event_of_tied x y e less own other) h) periods are.stand.order)
-    ∙ same_any rows periods are (λ (d : Event) (p : Period). same_event d e && ends_within p.end t)
-    ∙ any_alike _ _ rows (λ (r : Row). swap_and (not r.ended) (same_event r.event e) (ends_within r.period.end t))
+    ∙ same_any rows periods are (λ (d : Event) (p : Period). same_event d e && is_not_long_past p.end t)
+    ∙ any_alike _ _ rows (λ (r : Row). swap_and (not r.ended) (same_event r.event e) (is_not_long_past r.period.end t))
 
 le_both : (a b : ℕ) → a ≤ b → b ≤ a → a ≡ b
 le_both a b p q = omega (arith, p, q)

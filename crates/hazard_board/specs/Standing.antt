@@ -13,7 +13,7 @@ use Rattle.hazard_types.specs.declared.line.Row.{Row}
 use Rattle.hazard_types.specs.contracts.period.EndPartialEq.TheImpl as end
 use Rattle.hazard_types.specs.declared.period.End.{End}
 use Rattle.hazard_types.specs.declared.period.End.TheVariants.{At, Ufn}
-use Rattle.event_life.specs.Periods.{ends_within}
+use Rattle.event_life.specs.Periods.{is_not_long_past}
 use Rattle.event_life.specs.Products.{is_routine, later_event}
 use Rattle.hazard_board.specs.Seats.{put_at, left_out}
 use Rattle.hazard_board.specs.declared.standing.Standing.{Standing}
@@ -107,7 +107,7 @@ of_number etn standing = filter (λ (s : Standing). s.event.etn == etn) standing
 
 -- of the events whose end is at most half an hour past the one of the greatest year
 abbrev pub last_open : ℕ → List Standing → Option Event
-last_open t standing = fold (λ (best : Option Event) (s : Standing). if ends_within s.latest t then later_event best s.event else best) None standing
+last_open t standing = fold (λ (best : Option Event) (s : Standing). if is_not_long_past s.latest t then later_event best s.event else best) None standing
 
 -- the list with a standing event in its place, and without one
 abbrev pub put_standing : Standing → List Standing → List Standing

@@ -43,7 +43,7 @@ use periods::{PeriodCount, has_period};
 use shelves::live;
 use spots::{Spot, first_row};
 pub use standing::Standing;
-use standing::settle;
+use standing::set_latest_ends;
 use std::alloc::Global;
 use std::marker::Model;
 
@@ -212,7 +212,7 @@ impl Board {
     {
         let lines = lines.as_slice();
         bring_lines(&mut self.rows, &mut self.spots, &mut self.periods, lines, t);
-        settle(&mut self.standing, &self.periods, lines);
+        set_latest_ends(&mut self.standing, &self.periods, lines);
         self.rows.pass(t);
     }
 

@@ -9,7 +9,7 @@ ghost use Rattle.hazard_board.specs.declared.standing.Standing.{Standing as AnyS
 ghost use Rattle.hazard_board.specs.Standing.{by_standing, by_number, of_hazard, of_number, last_open};
 
 use crate::standing::Standing;
-use event_life::ends_within;
+use event_life::is_not_long_past;
 use hazard_types::{Event, Hazard, Minute};
 
 /// Returns how many of the events are of hazards before `h`.
@@ -110,7 +110,7 @@ fn last_open(standing: &[Standing], t: Minute) -> Option<Event>
 {
     let mut best = None;
     for s in standing {
-        if ends_within(&s.latest, t) {
+        if is_not_long_past(&s.latest, t) {
             best = later_event(&best, &s.event);
         }
     }

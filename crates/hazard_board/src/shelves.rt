@@ -128,7 +128,7 @@ fn shelf_from(alloc: Global, rows: &[Row], at: usize, n: usize) -> Result<Shelf,
 }
 
 /// Splits a shelf in two at an index of its rows. The second part has capacity for `n` more rows.
-fn part_at(later: &mut Vec<Shelf>, place: usize, at: usize, n: usize) -> Result<(), Oom>
+fn split_shelf_at(later: &mut Vec<Shelf>, place: usize, at: usize, n: usize) -> Result<(), Oom>
     requires place { place < vec_len later.old }
     requires order { IsStrictlySortedBy by_key (on_shelves later.old.items) }
     requires cut { (shelf : AnyShelf) →
@@ -147,7 +147,7 @@ fn part_at(later: &mut Vec<Shelf>, place: usize, at: usize, n: usize) -> Result<
 }
 
 /// Splits a long shelf in two. The second part has capacity for `n` more rows.
-fn part(later: &mut Vec<Shelf>, place: usize, n: usize) -> Result<(), Oom>
+fn split_shelf(later: &mut Vec<Shelf>, place: usize, n: usize) -> Result<(), Oom>
     requires place { place < vec_len later.old }
     requires order { IsStrictlySortedBy by_key (on_shelves later.old.items) }
     ensures kept { AreKept n later.old.items later.new.items }
@@ -157,7 +157,7 @@ fn part(later: &mut Vec<Shelf>, place: usize, n: usize) -> Result<(), Oom>
 {
     let shelf = &later[place];
     match cut_of(&shelf.rows) {
-        Some(at) => part_at(later, place, at, n),
+        Some(at) => split_shelf_at(later, place, at, n),
         None => Ok(()),
     }
 }
@@ -169,7 +169,7 @@ fn reserve_later(later: &mut Vec<Shelf>, n: usize) -> Result<(), Oom>
     ensures ok { OnOk result (HaveRoom n later.new.items) }
 {
     for place in (0..later.len()).rev() {
-        part(later, place, n)?;
+        split_shelf(later, place, n)?;
         let shelf = &mut later[place];
         shelf.rows.reserve(n)?;
     }
@@ -178,7 +178,7 @@ fn reserve_later(later: &mut Vec<Shelf>, n: usize) -> Result<(), Oom>
 
 /// Splits the rows before the shelves in two, if they are long. The second part is a shelf with
 /// capacity for `n` more rows.
-fn part_first(first: &mut Vec<Row>, later: &mut Vec<Shelf>, n: usize) -> Result<(), Oom>
+fn split_first_shelf(first: &mut Vec<Row>, later: &mut Vec<Shelf>, n: usize) -> Result<(), Oom>
     requires { AreShelved first.old.items later.old.items }
     ensures rows { first.new.items ++ on_shelves later.new.items
         ≡ first.old.items ++ on_shelves later.old.items }
@@ -209,7 +209,7 @@ fn reserve_each(first: &mut Vec<Row>, later: &mut Vec<Shelf>, n: usize) -> Resul
         (n ≤ least_room (vec_capacity first.new - vec_len first.new) later.new.items) }
 {
     reserve_later(later, n)?;
-    part_first(first, later, n)?;
+    split_first_shelf(first, later, n)?;
     first.reserve(n)?;
     Ok(())
 }

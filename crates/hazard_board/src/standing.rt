@@ -171,7 +171,7 @@ fn touches_last(lines: &[Line], e: &Event) -> bool
 }
 
 /// Whether the end of a line's event is to be set: it differs, and was not set for the line before.
-fn is_to_settle(
+fn is_end_to_set(
     standing: &[Standing],
     periods: &[PeriodCount],
     earlier: &[Line],
@@ -193,7 +193,7 @@ fn is_to_settle(
 }
 
 /// Sets the ends of the lines' events to the latest ends of the periods. Most have these already.
-pub fn settle(standing: &mut Vec<Standing>, periods: &[PeriodCount], lines: &[Line])
+pub fn set_latest_ends(standing: &mut Vec<Standing>, periods: &[PeriodCount], lines: &[Line])
     requires periods { IsStrictlySortedBy by_period periods.now }
     requires order { IsStrictlySortedBy by_standing standing.old.items }
     requires room { vec_len standing.old + newly standing.old.items lines.now
@@ -207,7 +207,7 @@ pub fn settle(standing: &mut Vec<Standing>, periods: &[PeriodCount], lines: &[Li
         ≤ vec_len standing.old + newly standing.old.items lines.now }
 {
     for (place, line) in lines.iter().enumerate() {
-        if is_to_settle(standing, periods, &lines[..place], line) {
+        if is_end_to_set(standing, periods, &lines[..place], line) {
             let latest = latest_in(periods, &line.event);
             set_end(standing, &line.event, &latest);
         }

@@ -2,7 +2,7 @@
 use Rattle.std.proofs.Common.{◌≡◌, ◌≢◌, ◌∙◌, ◌<◌, ℕ, zero, suc, Bool, true, false, List, [], ◌∷◌, length, get_or, drop, map, Option, Some, None, refl, ap, sym, drop-cons, cond, Bor, arith, Contains, IfSome, IfNone}
 use Rattle.std.specs.Option.{option_copied}
 use Rattle.hazard_types.specs.declared.hazard.Hazard.{Hazard}
-use Rattle.hazard_types.specs.Hazards.{DeskHazard, desk_hazards, beside, facts_of, name_of, fact_rows, name_rows}
+use Rattle.hazard_types.specs.Hazards.{DeskHazard, desk_hazards, value_of, facts_of, name_of, fact_rows, name_rows}
 use Rattle.hazard_types.specs.Known.{hazard_in, told_beside}
 use Rattle.hazard_types.specs.Same.{same_hazard}
 use Rattle.hazard_types.specs.declared.desk_hazards.Known.{Known}
@@ -24,16 +24,16 @@ module _ {X : Type 0} where
       ap (λ (rest : List (Known X)). told_beside rest h) front ∙ ap (λ b. cond b (Some r.value) (told_beside (drop (suc i) rows) h)) e
 
   -- rows tell what the pairs of their hazards and values do
-  pub as_pairs : (rows : List (Known X)) (h : Hazard) → told_beside rows h ≡ beside (map (λ (k : Known X). (hazard_in k, k.value)) rows) h
+  pub as_pairs : (rows : List (Known X)) (h : Hazard) → told_beside rows h ≡ value_of (map (λ (k : Known X). (hazard_in k, k.value)) rows) h
   as_pairs [] h = refl
   as_pairs (k ∷ rows) h = ap (λ (rest : Option X). cond (same_hazard (hazard_in k) h) (Some k.value) rest) (as_pairs rows h)
 
-named_if : (r : Known (Bor (List ℕ))) (rows : List (Known (Bor (List ℕ)))) (h : Hazard) (b : Bool) → option_copied (told_beside rows h) ≡ beside (map (λ (k : Known (Bor (List ℕ))). (hazard_in k, k.value.now)) rows) h → option_copied (cond b (Some r.value) (told_beside rows h)) ≡ cond b (Some r.value.now) (beside (map (λ (k : Known (Bor (List ℕ))). (hazard_in k, k.value.now)) rows) h)
+named_if : (r : Known (Bor (List ℕ))) (rows : List (Known (Bor (List ℕ)))) (h : Hazard) (b : Bool) → option_copied (told_beside rows h) ≡ value_of (map (λ (k : Known (Bor (List ℕ))). (hazard_in k, k.value.now)) rows) h → option_copied (cond b (Some r.value) (told_beside rows h)) ≡ cond b (Some r.value.now) (value_of (map (λ (k : Known (Bor (List ℕ))). (hazard_in k, k.value.now)) rows) h)
 named_if r rows h true later = refl
 named_if r rows h false later = later
 
 -- a name that is lent is the name beside the hazard
-pub named : (rows : List (Known (Bor (List ℕ)))) (h : Hazard) → option_copied (told_beside rows h) ≡ beside (map (λ (k : Known (Bor (List ℕ))). (hazard_in k, k.value.now)) rows) h
+pub named : (rows : List (Known (Bor (List ℕ)))) (h : Hazard) → option_copied (told_beside rows h) ≡ value_of (map (λ (k : Known (Bor (List ℕ))). (hazard_in k, k.value.now)) rows) h
 named [] h = refl
 named (r ∷ rows) h = named_if r rows h (same_hazard (hazard_in r) h) (named rows h)
 
@@ -45,19 +45,19 @@ some_is e = cc
 
 module _ {X : Type 0} where
   stands_if : (part : DeskHazard → X) (x : DeskHazard) (xs : List DeskHazard) (h : Hazard) (v : X) (b : Bool) → same_hazard x.hazard h ≡ b →
-      (beside (map (λ (d : DeskHazard). (d.hazard, part d)) xs) h ≡ Some v → (d : DeskHazard) × Contains xs d × (d.hazard ≡ h) × (part d ≡ v)) →
-      cond b (Some (part x)) (beside (map (λ (d : DeskHazard). (d.hazard, part d)) xs) h) ≡ Some v → (d : DeskHazard) × Contains (x ∷ xs) d × (d.hazard ≡ h) × (part d ≡ v)
+      (value_of (map (λ (d : DeskHazard). (d.hazard, part d)) xs) h ≡ Some v → (d : DeskHazard) × Contains xs d × (d.hazard ≡ h) × (part d ≡ v)) →
+      cond b (Some (part x)) (value_of (map (λ (d : DeskHazard). (d.hazard, part d)) xs) h) ≡ Some v → (d : DeskHazard) × Contains (x ∷ xs) d × (d.hazard ≡ h) × (part d ≡ v)
   stands_if part x xs h v true e later is = (x, (0, omega arith, refl), (hazard_decides x.hazard h).0 e, some_is is)
   stands_if part x xs h v false e later is = let there = later is in (there.0, further x xs there.0 there.1, there.2, there.3)
 
   -- what is found stands in the table, beside the hazard
-  pub stands : (part : DeskHazard → X) (xs : List DeskHazard) (h : Hazard) (v : X) → beside (map (λ (d : DeskHazard). (d.hazard, part d)) xs) h ≡ Some v → (d : DeskHazard) × Contains xs d × (d.hazard ≡ h) × (part d ≡ v)
+  pub stands : (part : DeskHazard → X) (xs : List DeskHazard) (h : Hazard) (v : X) → value_of (map (λ (d : DeskHazard). (d.hazard, part d)) xs) h ≡ Some v → (d : DeskHazard) × Contains xs d × (d.hazard ≡ h) × (part d ≡ v)
   stands part [] h v is = cc
   stands part (x ∷ xs) h v is = stands_if part x xs h v (same_hazard x.hazard h) refl (stands part xs h v) is
 
   absent_if : (part : DeskHazard → X) (x : DeskHazard) (xs : List DeskHazard) (h : Hazard) (b : Bool) → same_hazard x.hazard h ≡ b →
-      (beside (map (λ (d : DeskHazard). (d.hazard, part d)) xs) h ≡ None → (d : DeskHazard) → Contains xs d → d.hazard ≢ h) →
-      cond b (Some (part x)) (beside (map (λ (d : DeskHazard). (d.hazard, part d)) xs) h) ≡ None → (d : DeskHazard) → Contains (x ∷ xs) d → d.hazard ≢ h
+      (value_of (map (λ (d : DeskHazard). (d.hazard, part d)) xs) h ≡ None → (d : DeskHazard) → Contains xs d → d.hazard ≢ h) →
+      cond b (Some (part x)) (value_of (map (λ (d : DeskHazard). (d.hazard, part d)) xs) h) ≡ None → (d : DeskHazard) → Contains (x ∷ xs) d → d.hazard ≢ h
   absent_if part x xs h true e later is d there same = cc
   absent_if part x xs h false e later is d (zero, inside, here) same =
       let yes : same_hazard x.hazard h ≡ true = (hazard_decides x.hazard h).1 (ap (λ (y : DeskHazard). y.hazard) here ∙ same) in
@@ -66,7 +66,7 @@ module _ {X : Type 0} where
   absent_if part x xs h false e later is d (suc k, inside, here) same = later is d (k, omega arith, here) same
 
   -- where none is found, no record of the table has the hazard
-  pub absent : (part : DeskHazard → X) (xs : List DeskHazard) (h : Hazard) → beside (map (λ (d : DeskHazard). (d.hazard, part d)) xs) h ≡ None → (d : DeskHazard) → Contains xs d → d.hazard ≢ h
+  pub absent : (part : DeskHazard → X) (xs : List DeskHazard) (h : Hazard) → value_of (map (λ (d : DeskHazard). (d.hazard, part d)) xs) h ≡ None → (d : DeskHazard) → Contains xs d → d.hazard ≢ h
   absent part [] h is d (k, inside, here) same = absurd (omega arith)
   absent part (x ∷ xs) h is d there same = absent_if part x xs h (same_hazard x.hazard h) refl (absent part xs h) is d there same
 

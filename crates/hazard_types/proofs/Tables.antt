@@ -5,7 +5,7 @@ use Rattle.std.specs.Str.{bytes_eq}
 use Rattle.std.proofs.lemmas.Bool.{and_parts, eqb-true}
 use Rattle.std.proofs.lemmas.Slice.Eq.{bytes_eq-Decides}
 use Rattle.hazard_types.specs.declared.codes.Coded.{Coded}
-use Rattle.hazard_types.specs.Codes.{unfilled, filled, IsCode, StandsAlone, IsTable}
+use Rattle.hazard_types.specs.Codes.{without_padding, filled, IsCode, StandsAlone, IsTable}
 use Rattle.hazard_types.specs.Tables.{class_rows, action_rows, sig_rows, severity_rows, cause_rows, status_rows, category_rows}
 use Rattle.hazard_types.proofs.Equality.{class_itself, action_itself, sig_itself, severity_itself, cause_itself, status_itself, category_itself, hazard_itself}
 use Rattle.hazard_types.specs.Hazards.{hazard_rows, desk_hazards}
@@ -19,16 +19,16 @@ use Rattle.hazard_types.specs.contracts.codes.StatusPartialEq.TheImpl as status
 use Rattle.hazard_types.specs.contracts.codes.CategoryPartialEq.TheImpl as category
 
 abbrev is_code : List ℕ → Bool
-is_code code = nat_le 1 (length (unfilled code)) && (bytes_eq (filled (unfilled code)) code && length code == 4)
+is_code code = nat_le 1 (length (without_padding code)) && (bytes_eq (filled (without_padding code)) code && length code == 4)
 
 not_empty : (xs : List ℕ) → 1 ≤ length xs → xs ≡ [] → ⊥
 not_empty xs h e = let size : length xs ≡ 0 = ap length e in absurd (omega arith)
 
 code_by_test : (code : List ℕ) → is_code code ≡ true → IsCode code
 code_by_test code h =
-    let p = and_parts (nat_le 1 (length (unfilled code))) _ h in
-    let q = and_parts (bytes_eq (filled (unfilled code)) code) _ p.1 in
-    record { some = not_empty (unfilled code) (leb-true _ _ p.0); whole = (bytes_eq-Decides _ _).0 q.0; four = eqb-true _ _ q.1 }
+    let p = and_parts (nat_le 1 (length (without_padding code))) _ h in
+    let q = and_parts (bytes_eq (filled (without_padding code)) code) _ p.1 in
+    record { some = not_empty (without_padding code) (leb-true _ _ p.0); whole = (bytes_eq-Decides _ _).0 q.0; four = eqb-true _ _ q.1 }
 
 negated : (b : Bool) → not b ≡ true → b ≡ true → ⊥
 negated true h e = cc

@@ -5,8 +5,8 @@ use Rattle.std.specs.Str.{bytes_eq}
 use Rattle.hazard_types.specs.declared.codes.Coded.{Coded}
 
 -- the characters of a code before its first blank
-abbrev pub unfilled : List ℕ → List ℕ
-unfilled code = before_first (λ c. c == 32) code
+abbrev pub without_padding : List ℕ → List ℕ
+without_padding code = before_first (λ c. c == 32) code
 
 -- a code filled up with blanks to four characters
 abbrev pub filled : List ℕ → List ℕ
@@ -14,8 +14,8 @@ filled text = text ++ replicate (4 - length text) 32
 
 -- one to four characters that are no blank, filled up with blanks to four
 pub record IsCode (code : List ℕ) : Type 0 where
-  pub some : unfilled code ≢ []
-  pub whole : filled (unfilled code) ≡ code
+  pub some : without_padding code ≢ []
+  pub whole : filled (without_padding code) ≡ code
   pub four : length code ≡ 4
 
 -- an `==` that holds of identical values alone
@@ -27,7 +27,7 @@ module _ {T : Type 0} where
   abbrev pub value_beside : List (Coded T) → List ℕ → Option T
   value_beside [] code = None
   value_beside (row ∷ rows) code =
-      if bytes_eq (unfilled row.code) code then Some row.value else value_beside rows code
+      if bytes_eq (without_padding row.code) code then Some row.value else value_beside rows code
 
   -- the code of the first row with this value
   abbrev pub code_beside : (T → T → Bool) → List (Coded T) → T → Option (List ℕ)

@@ -77,9 +77,9 @@ desk_hazards =
     []
 
 -- the value of the first row with a hazard
-abbrev pub beside : {X : Type 0} → List (Hazard × X) → Hazard → Option X
-beside [] h = None
-beside (r ∷ rows) h = if same_hazard r.0 h then Some r.1 else beside rows h
+abbrev pub value_of : {X : Type 0} → List (Hazard × X) → Hazard → Option X
+value_of [] h = None
+value_of (r ∷ rows) h = if same_hazard r.0 h then Some r.1 else value_of rows h
 
 unfoldable pub fact_rows : List (Hazard × Facts)
 fact_rows = map (λ (d : DeskHazard). (d.hazard, d.facts)) desk_hazards
@@ -89,11 +89,11 @@ name_rows = map (λ (d : DeskHazard). (d.hazard, d.name)) desk_hazards
 
 -- the facts of a hazard, if the desk issues it
 unfoldable pub facts_of : Hazard → Option Facts
-facts_of h = beside fact_rows h
+facts_of h = value_of fact_rows h
 
 -- the name of a hazard, if the desk issues it
 unfoldable pub name_of : Hazard → Option (List ℕ)
-name_of h = beside name_rows h
+name_of h = value_of name_rows h
 
 -- the code of a hazard: its phenomenon, a dot and the letter of its significance
 abbrev pub hazard_code : Hazard → List ℕ

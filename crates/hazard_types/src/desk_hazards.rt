@@ -170,7 +170,7 @@ fn all_names() -> &'static [Known<&'static str>; 28]
 }
 
 /// Returns the value of the first row with the hazard, or `None` if no row has it.
-fn beside<V: Copy>(rows: &[Known<V>], h: Hazard) -> Option<V>
+fn value_of<V: Copy>(rows: &[Known<V>], h: Hazard) -> Option<V>
     ensures { result ≡ told_beside rows.now h }
 {
     let letters = h.phen.letters();
@@ -191,7 +191,7 @@ pub fn facts(h: Hazard) -> Option<Facts>
         Contains desk_hazards d × (d.hazard ≡ h) × (d.facts ≡ f)) }
     ensures none { IfNone result ((d : DeskHazard) → Contains desk_hazards d → d.hazard ≢ h) }
 {
-    beside(&FACTS, h)
+    value_of(&FACTS, h)
 }
 
 /// Returns a hazard's name in headlines, as `Winter Storm Warning`, or `None` if the desk does not
@@ -204,5 +204,5 @@ pub fn name_of(h: Hazard) -> Option<&'static str>
         Contains desk_hazards d × (d.hazard ≡ h) × (d.name ≡ name.now)) }
     ensures none { IfNone result ((d : DeskHazard) → Contains desk_hazards d → d.hazard ≢ h) }
 {
-    beside(all_names(), h)
+    value_of(all_names(), h)
 }

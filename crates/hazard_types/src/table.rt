@@ -1,12 +1,12 @@
 //! Look-ups in tables of codes, both ways.
 ghost use Rattle.std.specs.Prelude.{◌≡◌, ℕ, List, Some, IfSome, IfNone};
-ghost use Rattle.hazard_types.specs.Codes.{unfilled, filled, value_beside, code_beside, SomeRow, IsTable, HoldsOfIdentical};
+ghost use Rattle.hazard_types.specs.Codes.{without_padding, filled, value_beside, code_beside, SomeRow, IsTable, HoldsOfIdentical};
 
 use crate::codes::Coded;
 
 /// Returns the bytes of a code before its first blank.
-fn unfilled(code: &[u8; 4]) -> &[u8]
-    ensures { result.now ≡ unfilled code.now }
+fn without_padding(code: &[u8; 4]) -> &[u8]
+    ensures { result.now ≡ without_padding code.now }
 {
     for (i, byte) in code.iter().enumerate() {
         if *byte == b' ' {
@@ -23,11 +23,11 @@ fn unfilled(code: &[u8; 4]) -> &[u8]
 pub fn find<T: Copy, const N: usize>(rows: &[Coded<T>; N], code: &[u8]) -> Option<T>
     ensures value { result ≡ value_beside rows.now code.now }
     ensures found { IfSome result (λ v.
-        SomeRow (λ row. (unfilled row.code ≡ code.now) × (row.value ≡ v)) rows.now) }
-    ensures none { IfNone result (¬ SomeRow (λ row. unfilled row.code ≡ code.now) rows.now) }
+        SomeRow (λ row. (without_padding row.code ≡ code.now) × (row.value ≡ v)) rows.now) }
+    ensures none { IfNone result (¬ SomeRow (λ row. without_padding row.code ≡ code.now) rows.now) }
 {
     for row in rows {
-        if unfilled(&row.code) == code {
+        if without_padding(&row.code) == code {
             return Some(row.value);
         }
     }
@@ -58,5 +58,5 @@ pub fn tables_are_inverse<T: Copy + Eq>()
         code_beside T.eq rows v ≡ Some (filled code) }
     ensures written_back { (rows : List (Coded T)) (code : List ℕ) (v : T) →
         HoldsOfIdentical T.eq → IsTable rows → code_beside T.eq rows v ≡ Some code →
-        value_beside rows (unfilled code) ≡ Some v }
+        value_beside rows (without_padding code) ≡ Some v }
 {}

@@ -10,7 +10,7 @@ use hazard_types::{Flood, time_text};
 
 /// Returns the template with the values in its columns.
 #[tactic(auto, unfolding(crate::specs::Columns::hvtec_text))]
-fn filled(h: &Flood) -> [u8; LENGTH]
+fn filled_template(h: &Flood) -> [u8; LENGTH]
     ensures value { result ≡ hvtec_text h.now }
     ensures begin { IsTime (time_text h.now.begin) h.now.begin }
     ensures crest { IsTime (time_text h.now.crest) h.now.crest }
@@ -33,7 +33,7 @@ fn filled(h: &Flood) -> [u8; LENGTH]
 pub fn hvtec_columns(h: &Flood) -> [u8; LENGTH]
     ensures { result ≡ hvtec_text h.now }
 {
-    filled(h)
+    filled_template(h)
 }
 
 /// Returns the H-VTEC string of `h`, 54 bytes from slash to slash, without a line end. A time of
@@ -48,5 +48,5 @@ pub fn hvtec_text(h: &Flood) -> [u8; LENGTH]
     // No other bytes have these values.
     ensures only { (bytes : Seq ℕ) → IsHvtec bytes h.now → bytes ≡ result }
 {
-    filled(h)
+    filled_template(h)
 }

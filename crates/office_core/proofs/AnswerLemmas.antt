@@ -15,7 +15,7 @@ use Rattle.office_core.specs.Rules.{broken_request, is_kept, is_repeated, minute
 use Rattle.office_core.specs.Requests.{same_request}
 use Rattle.office_core.specs.State.{State, said_by}
 use Rattle.office_core.specs.Step.{Accepts, BreaksOnLines, IsMade, Refuses, Repeats}
-use Rattle.office_core.specs.declared.heard.Said.{Said}
+use Rattle.office_core.specs.declared.heard.LastRequest.{LastRequest}
 use Rattle.office_core.specs.declared.made.Made.{Made}
 
 pub some_one : {X : Type 0} (x y : X) (o : Option X) → o ≡ Some x → o ≡ Some y → x ≡ y
@@ -92,11 +92,11 @@ not_both s desk seq r reading t made x f (inr (new, none, g)) =
 
 -- ---- repetitions
 
-kept_again : (o : Option Said) (seq : ℕ) (r : Request) (kept : Reply) → o ≡ Some (record { seq = seq; request = r; reply = kept }) → is_kept o seq r ≡ true
+kept_again : (o : Option LastRequest) (seq : ℕ) (r : Request) (kept : Reply) → o ≡ Some (record { seq = seq; request = r; reply = kept }) → is_kept o seq r ≡ true
 kept_again None seq r kept h = cc
 kept_again (Some said) seq r kept h =
     let is : said ≡ record { seq = seq; request = r; reply = kept } = some_one said _ (Some said) refl h in
-    ap (λ (x : Said). is_kept (Some x) seq r) is ∙ and_from (seq == seq) (same_request r r) (eq-eqb seq seq refl) (request_itself r)
+    ap (λ (x : LastRequest). is_kept (Some x) seq r) is ∙ and_from (seq == seq) (same_request r r) (eq-eqb seq seq refl) (request_itself r)
 
 repeated : (s : State) (desk : List ℕ) (seq : ℕ) (r : Request) (kept : Reply) → Repeats s desk seq r kept → is_repeated s desk seq r ≡ true
 repeated s desk seq r kept h = kept_again (said_by s desk) seq r kept h.same

@@ -13,7 +13,7 @@ use Rattle.office_core.specs.Requests.{draft_of, intent_of, same_request}
 use Rattle.office_core.specs.Rules.{broken_draft, broken_number, broken_part, broken_request, clock_out, drafts_full, first_of_two, found_draft, gap, intents_full, is_kept, is_out, is_repeated, minute_of, no_draft, no_intent, not_owner, reused, stale, still_active, unknown_desk}
 use Rattle.office_core.specs.State.{State, last_number, said_by}
 use Rattle.office_core.specs.Step.{Repeats}
-use Rattle.office_core.specs.declared.heard.Said.{Said}
+use Rattle.office_core.specs.declared.heard.LastRequest.{LastRequest}
 
 first_none : (a b : Option Refusal) → first_of_two a b ≡ None → (a ≡ None) × (b ≡ None)
 first_none None b e = (refl, e)
@@ -84,7 +84,7 @@ drafts_fit s desk seq r reading new e = draft_rules_kept s desk r (minute_of s r
 
 -- ---- repeated requests
 
-kept_one : (seq : ℕ) (r : Request) (found : Option Said) → ((a b : Request) → Decides (same_request a b) (a ≡ b)) → is_kept found seq r ≡ true → (kept : Reply) × (found ≡ Some (record { seq = seq; request = r; reply = kept }))
+kept_one : (seq : ℕ) (r : Request) (found : Option LastRequest) → ((a b : Request) → Decides (same_request a b) (a ≡ b)) → is_kept found seq r ≡ true → (kept : Reply) × (found ≡ Some (record { seq = seq; request = r; reply = kept }))
 kept_one seq r None same e = absurd (false≢true e)
 kept_one seq r (Some said) same e =
     let parts = and_parts (said.seq == seq) (same_request said.request r) e in

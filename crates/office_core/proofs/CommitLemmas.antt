@@ -21,8 +21,8 @@ use Rattle.office_core.specs.Sound.{IsSound}
 use Rattle.event_numbers.specs.declared.Count.{Count}
 use Rattle.office_core.specs.State.{State, is_draft, said_in}
 use Rattle.office_core.specs.Step.{begun_after, drafts_after, heard_after, products_with, rows_with_made, state_after, taken_by, with_draft, with_intent, without_draft, without_intent}
-use Rattle.office_core.specs.declared.heard.Heard.{Heard}
-use Rattle.office_core.specs.declared.heard.Said.{Said}
+use Rattle.office_core.specs.declared.heard.DeskRecord.{DeskRecord}
+use Rattle.office_core.specs.declared.heard.LastRequest.{LastRequest}
 use Rattle.office_core.specs.declared.prepared.DraftChange.{DraftChange}
 use Rattle.office_core.specs.declared.prepared.DraftChange.TheVariants.{Keep, Open, Replace, Remove}
 
@@ -97,15 +97,15 @@ flip a b =
     let other : Decides (bytes_eq b a) (a ≡ b) = ((λ (e : bytes_eq b a ≡ true). sym ((bytes_eq-Decides b a).0 e)), (λ (e : a ≡ b). (bytes_eq-Decides b a).1 (sym e))) in
     same_from_decides (bytes_eq a b) (bytes_eq b a) (bytes_eq-Decides a b) other
 
-here : (b rest : Bool) (h : Heard) (hs more : List Heard) (desk : List ℕ) (said : Said) → bytes_eq h.desk desk ≡ b → (b || rest) ≡ true → (rest ≡ true → said_in more desk ≡ Some said) →
+here : (b rest : Bool) (h : DeskRecord) (hs more : List DeskRecord) (desk : List ℕ) (said : LastRequest) → bytes_eq h.desk desk ≡ b → (b || rest) ≡ true → (rest ≡ true → said_in more desk ≡ Some said) →
     said_in (if b then record { desk = h.desk; said = Some said } ∷ hs else (h ∷ more)) desk ≡ Some said
 here true rest h hs more desk said e any k = rw e refl
 here false rest h hs more desk said e any k = rw e (k any)
 
-kept_in : (hs : List Heard) (desk : List ℕ) (said : Said) → list_any (bytes_eq desk) (map (λ (h : Heard). h.desk) hs) ≡ true → said_in (heard_after hs desk said) desk ≡ Some said
+kept_in : (hs : List DeskRecord) (desk : List ℕ) (said : LastRequest) → list_any (bytes_eq desk) (map (λ (h : DeskRecord). h.desk) hs) ≡ true → said_in (heard_after hs desk said) desk ≡ Some said
 kept_in [] desk said any = absurd (false≢true any)
 kept_in (h ∷ hs) desk said any =
-    let rest = list_any (bytes_eq desk) (map (λ (h : Heard). h.desk) hs) in
+    let rest = list_any (bytes_eq desk) (map (λ (h : DeskRecord). h.desk) hs) in
     let either : (bytes_eq h.desk desk || rest) ≡ true = ap (λ (b : Bool). b || rest) (flip h.desk desk) ∙ any in
     here (bytes_eq h.desk desk) rest h hs (heard_after hs desk said) desk said refl either (kept_in hs desk said)
 
@@ -114,7 +114,7 @@ known true e = refl
 known false e = absurd (some_is_none e)
 
 -- the request is the last of its desk
-pub kept_after : (s : State) (counts : List Count) (desk : List ℕ) (said : Said) → IsSound s counts → unknown_desk s desk ≡ None → said_in (heard_after s.heard desk said) desk ≡ Some said
+pub kept_after : (s : State) (counts : List Count) (desk : List ℕ) (said : LastRequest) → IsSound s counts → unknown_desk s desk ≡ None → said_in (heard_after s.heard desk said) desk ≡ Some said
 kept_after s counts desk said sound e =
     let any : list_any (bytes_eq desk) s.settings.desks ≡ true = known (list_any (bytes_eq desk) s.settings.desks) e in
     kept_in s.heard desk said (ap (list_any (bytes_eq desk)) sound.desks ∙ any)
@@ -122,7 +122,7 @@ kept_after s counts desk said sound e =
 -- ---- the state
 
 -- these are the fields of the state after the entry
-pub fields_after : (s : State) (p : Readied) (rows : List Row) (products : List Sent) (drafts : List Draft) (begun : ℕ) (heard : List Heard) →
+pub fields_after : (s : State) (p : Readied) (rows : List Row) (products : List Sent) (drafts : List Draft) (begun : ℕ) (heard : List DeskRecord) →
     rows ≡ rows_with_made s.rows p.entry.minute p.made → products ≡ products_with s.products p.made →
     drafts ≡ changed p.change s.drafts → begun ≡ begun_with s.begun p.change →
     heard ≡ heard_after s.heard p.entry.desk (record { seq = p.entry.seq; request = p.entry.request; reply = p.entry.reply }) →

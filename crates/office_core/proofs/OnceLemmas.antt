@@ -16,10 +16,10 @@ use Rattle.action_planner.specs.Offences.{first_given}
 use Rattle.action_planner.proofs.LawfulPlaced.{given_none}
 use Rattle.office_core.specs.Histories.{Entered, IsNext, LeadFrom, IsLegal, StandOnce, entries_of, numbers_by}
 use Rattle.office_core.specs.Rules.{broken_number, broken_request, first_of_two, is_repeated, number_rules, reused, stale, gap, unknown_desk}
-use Rattle.office_core.specs.State.{State, first_state, in_edition, last_number, last_of, said_in, unheard}
+use Rattle.office_core.specs.State.{State, first_state, in_edition, last_number, last_of, said_in, no_requests}
 use Rattle.office_core.specs.Step.{Accepts, entry_of, heard_after, state_after}
-use Rattle.office_core.specs.declared.heard.Heard.{Heard}
-use Rattle.office_core.specs.declared.heard.Said.{Said}
+use Rattle.office_core.specs.declared.heard.DeskRecord.{DeskRecord}
+use Rattle.office_core.specs.declared.heard.LastRequest.{LastRequest}
 use Rattle.office_core.specs.declared.made.Made.{Made}
 
 bytes_one : (xs ys : List ℕ) → bytes_eq xs ys ≡ true → xs ≡ ys
@@ -33,7 +33,7 @@ bytes_itself xs = (bytes_eq-Decides xs xs).1 refl
 said_last : Bool → ℕ → ℕ → ℕ
 said_last b new old = cond b new old
 
-heard_step : (h : Heard) (heard : List Heard) (desk d : List ℕ) (said : Said) (a b c : Bool) →
+heard_step : (h : DeskRecord) (heard : List DeskRecord) (desk d : List ℕ) (said : LastRequest) (a b c : Bool) →
     bytes_eq h.desk desk ≡ a → bytes_eq h.desk d ≡ b → bytes_eq desk d ≡ c →
     (a ≡ false → last_of (said_in (heard_after heard desk said) d) ≡ cond c said.seq (last_of (said_in heard d))) →
     last_of (said_in (cond a (record { desk = h.desk; said = Some said } ∷ heard) (h ∷ heard_after heard desk said)) d)
@@ -51,34 +51,34 @@ heard_step h heard desk d said false false true here there joint more = ap (λ x
 heard_step h heard desk d said false false false here there joint more = ap (λ x. last_of (cond x h.said (said_in (heard_after heard desk said) d))) there ∙ more refl
 
 -- the desk's last number is the one heard, every other stays
-last_after : (heard : List Heard) (desk d : List ℕ) (said : Said) → list_any (bytes_eq desk) (map (λ (h : Heard). h.desk) heard) ≡ true →
+last_after : (heard : List DeskRecord) (desk d : List ℕ) (said : LastRequest) → list_any (bytes_eq desk) (map (λ (h : DeskRecord). h.desk) heard) ≡ true →
     last_of (said_in (heard_after heard desk said) d) ≡ cond (bytes_eq desk d) said.seq (last_of (said_in heard d))
 last_after [] desk d said known = cc
 last_after (h ∷ heard) desk d said known =
     heard_step h heard desk d said (bytes_eq h.desk desk) (bytes_eq h.desk d) (bytes_eq desk d) refl refl refl
     (λ other. last_after heard desk d said (later (bytes_eq desk h.desk) refl other))
   where
-    later : (b : Bool) → bytes_eq desk h.desk ≡ b → bytes_eq h.desk desk ≡ false → list_any (bytes_eq desk) (map (λ (x : Heard). x.desk) heard) ≡ true
+    later : (b : Bool) → bytes_eq desk h.desk ≡ b → bytes_eq h.desk desk ≡ false → list_any (bytes_eq desk) (map (λ (x : DeskRecord). x.desk) heard) ≡ true
     later true is other = absurd (both_ways _ other (subst (λ x. bytes_eq x desk ≡ true) (bytes_one desk h.desk is) (bytes_itself desk)))
-    later false is other = subst (λ b. (b || list_any (bytes_eq desk) (map (λ (x : Heard). x.desk) heard)) ≡ true) is known
+    later false is other = subst (λ b. (b || list_any (bytes_eq desk) (map (λ (x : DeskRecord). x.desk) heard)) ≡ true) is known
 
-none_said : (desks : List (List ℕ)) (d : List ℕ) → last_of (said_in (map unheard desks) d) ≡ 0
+none_said : (desks : List (List ℕ)) (d : List ℕ) → last_of (said_in (map no_requests desks) d) ≡ 0
 none_said [] d = refl
 none_said (desk ∷ desks) d = none_step (bytes_eq desk d) (none_said desks d)
   where
-    none_step : (b : Bool) → last_of (said_in (map unheard desks) d) ≡ 0 → last_of (cond b None (said_in (map unheard desks) d)) ≡ 0
+    none_step : (b : Bool) → last_of (said_in (map no_requests desks) d) ≡ 0 → last_of (cond b None (said_in (map no_requests desks) d)) ≡ 0
     none_step true more = refl
     none_step false more = more
 
-desks_unheard : (desks : List (List ℕ)) → map (λ (h : Heard). h.desk) (map unheard desks) ≡ desks
+desks_unheard : (desks : List (List ℕ)) → map (λ (h : DeskRecord). h.desk) (map no_requests desks) ≡ desks
 desks_unheard [] = refl
 desks_unheard (d ∷ desks) = ap (λ ds. d ∷ ds) (desks_unheard desks)
 
-desks_after : (heard : List Heard) (desk : List ℕ) (said : Said) → map (λ (h : Heard). h.desk) (heard_after heard desk said) ≡ map (λ (h : Heard). h.desk) heard
+desks_after : (heard : List DeskRecord) (desk : List ℕ) (said : LastRequest) → map (λ (h : DeskRecord). h.desk) (heard_after heard desk said) ≡ map (λ (h : DeskRecord). h.desk) heard
 desks_after [] desk said = refl
 desks_after (h ∷ heard) desk said = by_test (bytes_eq h.desk desk) (desks_after heard desk said)
   where
-    by_test : (b : Bool) → map (λ (x : Heard). x.desk) (heard_after heard desk said) ≡ map (λ (x : Heard). x.desk) heard → map (λ (x : Heard). x.desk) (cond b (record { desk = h.desk; said = Some said } ∷ heard) (h ∷ heard_after heard desk said)) ≡ h.desk ∷ map (λ (x : Heard). x.desk) heard
+    by_test : (b : Bool) → map (λ (x : DeskRecord). x.desk) (heard_after heard desk said) ≡ map (λ (x : DeskRecord). x.desk) heard → map (λ (x : DeskRecord). x.desk) (cond b (record { desk = h.desk; said = Some said } ∷ heard) (h ∷ heard_after heard desk said)) ≡ h.desk ∷ map (λ (x : DeskRecord). x.desk) heard
     by_test true more = refl
     by_test false more = ap (λ ds. h.desk ∷ ds) more
 
@@ -136,11 +136,11 @@ numbers_unbroken s desk seq r reading new none =
 
 pub record Counted (settings : Settings) (earlier : List Entry) (s : State) : Type 0 where
   pub known : s.settings ≡ settings
-  pub desks : map (λ (h : Heard). h.desk) s.heard ≡ settings.desks
+  pub desks : map (λ (h : DeskRecord). h.desk) s.heard ≡ settings.desks
   pub last : (d : List ℕ) → last_of (said_in s.heard d) ≡ length (numbers_by d earlier)
   pub numbers : (d : List ℕ) → numbers_by d earlier ≡ counted_from 1 (length (numbers_by d earlier))
 
-abbrev said_of : Entry → Said
+abbrev said_of : Entry → LastRequest
 said_of e = record { seq = e.seq; request = e.request; reply = e.reply }
 
 heard_next : (s : State) (e : Entry) (made : Option Made) → (state_after s e made).heard ≡ heard_after s.heard e.desk (said_of e)
@@ -195,14 +195,14 @@ module _ (fits : List Entered → Entered → Bool) where
       let rules : AllByRecursion (λ x. x ≡ None) (number_rules before e.desk e.seq (pos e.minute)) = numbers_unbroken before e.desk e.seq e.request (pos e.minute) h.accepted.new h.accepted.request in
       let number : e.seq ≡ last_of (said_in s.heard e.desk) + 1 = number_next (last_of (said_in s.heard e.desk)) e.seq rules.1.0 rules.1.1.0 rules.1.1.1.0 in
       let known : list_any (bytes_eq e.desk) s.settings.desks ≡ true = desk_known s.settings.desks e.desk (list_any (bytes_eq e.desk) s.settings.desks) refl rules.0 in
-      let desks : map (λ (x : Heard). x.desk) s.heard ≡ s.settings.desks = c.desks ∙ ap (λ (x : Settings). x.desks) (sym c.known) in
+      let desks : map (λ (x : DeskRecord). x.desk) s.heard ≡ s.settings.desks = c.desks ∙ ap (λ (x : Settings). x.desks) (sym c.known) in
       let heard : next.heard ≡ heard_after s.heard e.desk (said_of e) = ap (λ (x : State). x.heard) h.after ∙ heard_next before e y.made in
-      let is_heard : list_any (bytes_eq e.desk) (map (λ (x : Heard). x.desk) s.heard) ≡ true = ap (list_any (bytes_eq e.desk)) desks ∙ known in
+      let is_heard : list_any (bytes_eq e.desk) (map (λ (x : DeskRecord). x.desk) s.heard) ≡ true = ap (list_any (bytes_eq e.desk)) desks ∙ known in
       let counts : (d : List ℕ) → bytes_eq e.desk d ≡ true → e.seq ≡ length (numbers_by d (entries_of earlier)) + 1 =
       λ d same. number ∙ ap (λ k. k + 1) (ap (λ x. last_of (said_in s.heard x)) (bytes_one e.desk d same) ∙ c.last d) in
       record {
         known = ap (λ (x : State). x.settings) h.after ∙ settings_next before e y.made ∙ c.known;
-        desks = ap (map (λ (x : Heard). x.desk)) heard ∙ desks_after s.heard e.desk (said_of e) ∙ c.desks;
+        desks = ap (map (λ (x : DeskRecord). x.desk)) heard ∙ desks_after s.heard e.desk (said_of e) ∙ c.desks;
         last = λ d.
             ap (λ x. last_of (said_in x d)) heard ∙ last_after s.heard e.desk d (said_of e) is_heard
             ∙ ap (cond (bytes_eq e.desk d) e.seq) (c.last d)
@@ -235,21 +235,21 @@ module _ (s : State) (desk : List ℕ) (seq : ℕ) (r : Request) (reading : ℤ)
       let rules : AllByRecursion (λ x. x ≡ None) (number_rules s desk seq reading) = numbers_unbroken s desk seq r reading h.new h.request in
       number_next (last_number s desk) seq rules.1.0 rules.1.1.0 rules.1.1.1.0
 
-  is_heard : map (λ (x : Heard). x.desk) s.heard ≡ s.settings.desks → Accepts s desk seq r reading t made → list_any (bytes_eq desk) (map (λ (x : Heard). x.desk) s.heard) ≡ true
+  is_heard : map (λ (x : DeskRecord). x.desk) s.heard ≡ s.settings.desks → Accepts s desk seq r reading t made → list_any (bytes_eq desk) (map (λ (x : DeskRecord). x.desk) s.heard) ≡ true
   is_heard desks h =
       let rules : AllByRecursion (λ x. x ≡ None) (number_rules s desk seq reading) = numbers_unbroken s desk seq r reading h.new h.request in
       ap (list_any (bytes_eq desk)) desks ∙ desk_known s.settings.desks desk (list_any (bytes_eq desk) s.settings.desks) refl rules.0
 
-  last_then : (d : List ℕ) → map (λ (x : Heard). x.desk) s.heard ≡ s.settings.desks → Accepts s desk seq r reading t made →
+  last_then : (d : List ℕ) → map (λ (x : DeskRecord). x.desk) s.heard ≡ s.settings.desks → Accepts s desk seq r reading t made →
       last_number (state_after s (entry_of s desk seq r t made) made) d ≡ cond (bytes_eq desk d) seq (last_number s d)
   last_then d desks h =
       ap (λ x. last_of (said_in x d)) (heard_next s (entry_of s desk seq r t made) made)
       ∙ last_after s.heard desk d (said_of (entry_of s desk seq r t made)) (is_heard desks h)
 
-  pub last_is : map (λ (x : Heard). x.desk) s.heard ≡ s.settings.desks → Accepts s desk seq r reading t made → last_number (state_after s (entry_of s desk seq r t made) made) desk ≡ seq
+  pub last_is : map (λ (x : DeskRecord). x.desk) s.heard ≡ s.settings.desks → Accepts s desk seq r reading t made → last_number (state_after s (entry_of s desk seq r t made) made) desk ≡ seq
   last_is desks h = last_then desk desks h ∙ ap (λ b. cond b seq (last_number s desk)) (bytes_itself desk)
 
-  pub others_stay : (d : List ℕ) → map (λ (x : Heard). x.desk) s.heard ≡ s.settings.desks → Accepts s desk seq r reading t made → (d ≡ desk → ⊥) →
+  pub others_stay : (d : List ℕ) → map (λ (x : DeskRecord). x.desk) s.heard ≡ s.settings.desks → Accepts s desk seq r reading t made → (d ≡ desk → ⊥) →
       last_number (state_after s (entry_of s desk seq r t made) made) d ≡ last_number s d
   others_stay d desks h other = last_then d desks h ∙ ap (λ b. cond b seq (last_number s d)) (differs (bytes_eq desk d) refl)
     where

@@ -14,10 +14,10 @@ use Rattle.action_planner.proofs.Standing.{at_first}
 use Rattle.product_template.specs.Bodies.{is_training}
 use Rattle.office_core.specs.Making.{drafted_by}
 use Rattle.office_core.specs.Sound.{IsSound, IsSoundDraft, IsSoundMaking, IsSoundProduct, IsSoundRow}
-use Rattle.office_core.specs.State.{State, draft_at, first_state, is_draft, unheard}
-use Rattle.office_core.specs.declared.heard.Heard.{Heard}
+use Rattle.office_core.specs.State.{State, draft_at, first_state, is_draft, no_requests}
+use Rattle.office_core.specs.declared.heard.DeskRecord.{DeskRecord}
 
-unheard_desks : (desks : List (List ℕ)) → map (λ (h : Heard). h.desk) (map unheard desks) ≡ desks
+unheard_desks : (desks : List (List ℕ)) → map (λ (h : DeskRecord). h.desk) (map no_requests desks) ≡ desks
 unheard_desks [] = refl
 unheard_desks (desk ∷ desks) = ap (λ (rest : List (List ℕ)). desk ∷ rest) (unheard_desks desks)
 

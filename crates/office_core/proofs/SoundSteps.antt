@@ -60,8 +60,8 @@ use Rattle.office_core.specs.Sound.{AreSoundIntents, IsNamed, IsSound, IsSoundDr
 use Rattle.office_core.specs.State.{State, draft_at, is_draft}
 use Rattle.office_core.specs.Step.{Accepts, IsMade, drafts_after, entry_of, heard_after, products_with, rows_with_made, state_after, taken_by, with_draft, with_intent, without_draft, without_intent}
 use Rattle.office_core.specs.Writing.{bad_text, first_texts}
-use Rattle.office_core.specs.declared.heard.Heard.{Heard}
-use Rattle.office_core.specs.declared.heard.Said.{Said}
+use Rattle.office_core.specs.declared.heard.DeskRecord.{DeskRecord}
+use Rattle.office_core.specs.declared.heard.LastRequest.{LastRequest}
 use Rattle.office_core.specs.declared.made.Made.{Made}
 use Rattle.office_core.proofs.SoundPlans.{can_plan, corrected_pass, corrected_zones, may_be_written, planned_pass, planned_zones}
 use Rattle.office_core.proofs.SoundRequests.{IsUnbroken, allowed, keeps_rules, located_in, making_is, passed}
@@ -81,12 +81,12 @@ in_order last (negsuc n) le h = cc
 
 -- ---- desks
 
-desks_step : (b : Bool) (h : Heard) (heard : List Heard) (desk : List ℕ) (said : Said) → map (λ (x : Heard). x.desk) (heard_after heard desk said) ≡ map (λ (x : Heard). x.desk) heard →
-    map (λ (x : Heard). x.desk) (cond b (record { desk = h.desk; said = Some said } ∷ heard) (h ∷ heard_after heard desk said)) ≡ h.desk ∷ map (λ (x : Heard). x.desk) heard
+desks_step : (b : Bool) (h : DeskRecord) (heard : List DeskRecord) (desk : List ℕ) (said : LastRequest) → map (λ (x : DeskRecord). x.desk) (heard_after heard desk said) ≡ map (λ (x : DeskRecord). x.desk) heard →
+    map (λ (x : DeskRecord). x.desk) (cond b (record { desk = h.desk; said = Some said } ∷ heard) (h ∷ heard_after heard desk said)) ≡ h.desk ∷ map (λ (x : DeskRecord). x.desk) heard
 desks_step true h heard desk said more = refl
 desks_step false h heard desk said more = ap (λ (rest : List (List ℕ)). h.desk ∷ rest) more
 
-same_desks : (heard : List Heard) (desk : List ℕ) (said : Said) → map (λ (x : Heard). x.desk) (heard_after heard desk said) ≡ map (λ (x : Heard). x.desk) heard
+same_desks : (heard : List DeskRecord) (desk : List ℕ) (said : LastRequest) → map (λ (x : DeskRecord). x.desk) (heard_after heard desk said) ≡ map (λ (x : DeskRecord). x.desk) heard
 same_desks [] desk said = refl
 same_desks (h ∷ heard) desk said = desks_step (bytes_eq h.desk desk) h heard desk said (same_desks heard desk said)
 

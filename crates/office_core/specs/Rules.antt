@@ -21,7 +21,7 @@ use Rattle.action_planner.specs.Lines.{follows}
 use Rattle.action_planner.specs.Offences.{first_given}
 use Rattle.action_planner.specs.Placed.{zones_of}
 use Rattle.office_core.specs.Requests.{draft_of, hazard_of, intent_of, same_request, takes, texts_in}
-use Rattle.office_core.specs.declared.heard.Said.{Said}
+use Rattle.office_core.specs.declared.heard.LastRequest.{LastRequest}
 use Rattle.office_core.specs.State.{State, draft_at, last_number, product_at, said_by}
 use Rattle.office_core.specs.Writing.{bad_text, first_texts, long_text}
 
@@ -31,7 +31,7 @@ use Rattle.office_core.specs.Writing.{bad_text, first_texts, long_text}
 abbrev pub unknown_desk : State → List ℕ → Option Refusal
 unknown_desk s desk = if list_any (bytes_eq desk) s.settings.desks then None else Some refusal.UnknownDesk
 
-abbrev pub is_kept : Option Said → ℕ → Request → Bool
+abbrev pub is_kept : Option LastRequest → ℕ → Request → Bool
 is_kept None seq r = false
 is_kept (Some said) seq r = (said.seq == seq) && same_request said.request r
 

@@ -28,7 +28,7 @@ use Rattle.product_template.specs.Bodies.{is_training}
 use Rattle.product_template.specs.Conditions.{ArePrintable}
 use Rattle.office_core.specs.Making.{Making}
 use Rattle.office_core.specs.State.{State}
-use Rattle.office_core.specs.declared.heard.Heard.{Heard}
+use Rattle.office_core.specs.declared.heard.DeskRecord.{DeskRecord}
 
 -- the zone has a name, but for training, where it may lack one
 abbrev pub IsNamed : Settings → Class → Place → Type 0
@@ -78,7 +78,7 @@ IsSoundMaking s (Making.corrected sent given) = IsSoundProduct sent × All ArePr
 pub record IsSound (s : State) (counts : List Count) : Type 0 where
   pub forms : HasForms s.settings
   pub training : s.settings.any_zone ≡ true → is_training s.class ≡ true
-  pub desks : map (λ (h : Heard). h.desk) s.heard ≡ s.settings.desks
+  pub desks : map (λ (h : DeskRecord). h.desk) s.heard ≡ s.settings.desks
   pub order : IsStrictlySortedBy by_key s.rows
   pub stands : Stands s.rows counts s.last
   pub minute : s.last ≤ 52000000

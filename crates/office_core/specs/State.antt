@@ -7,8 +7,8 @@ use Rattle.office_types.specs.declared.request.Draft.{Draft}
 use Rattle.office_types.specs.declared.request.Edition.{Edition}
 use Rattle.office_types.specs.declared.request.Sent.{Sent}
 use Rattle.desk_settings.specs.declared.settings.Settings.{Settings}
-use Rattle.office_core.specs.declared.heard.Heard.{Heard}
-use Rattle.office_core.specs.declared.heard.Said.{Said}
+use Rattle.office_core.specs.declared.heard.DeskRecord.{DeskRecord}
+use Rattle.office_core.specs.declared.heard.LastRequest.{LastRequest}
 
 pub record State : Type 0 where
   pub settings : Settings
@@ -24,16 +24,16 @@ pub record State : Type 0 where
   -- how many drafts were opened
   pub begun : ℕ
   -- one for each desk of the settings, in their order
-  pub heard : List Heard
+  pub heard : List DeskRecord
   -- the minute of the last entry, 0 at first
   pub last : ℕ
 
-abbrev pub unheard : List ℕ → Heard
-unheard desk = record { desk = desk; said = None }
+abbrev pub no_requests : List ℕ → DeskRecord
+no_requests desk = record { desk = desk; said = None }
 
 -- before any request
 abbrev pub first_state : Settings → Class → Edition → State
-first_state settings class edition = record { settings = settings; class = class; edition = edition; rows = []; products = []; drafts = []; begun = 0; heard = map unheard settings.desks; last = 0 }
+first_state settings class edition = record { settings = settings; class = class; edition = edition; rows = []; products = []; drafts = []; begun = 0; heard = map no_requests settings.desks; last = 0 }
 
 -- the same in this edition
 abbrev pub in_edition : Edition → State → State
@@ -54,15 +54,15 @@ product_in products (suc n) = slice_get products n
 abbrev pub product_at : State → ℕ → Option Sent
 product_at s number = product_in s.products number
 
-abbrev pub said_in : List Heard → List ℕ → Option Said
+abbrev pub said_in : List DeskRecord → List ℕ → Option LastRequest
 said_in [] desk = None
 said_in (h ∷ heard) desk = if bytes_eq h.desk desk then h.said else said_in heard desk
 
 -- a desk's last accepted request
-abbrev pub said_by : State → List ℕ → Option Said
+abbrev pub said_by : State → List ℕ → Option LastRequest
 said_by s desk = said_in s.heard desk
 
-abbrev pub last_of : Option Said → ℕ
+abbrev pub last_of : Option LastRequest → ℕ
 last_of None = 0
 last_of (Some said) = said.seq
 

@@ -17,8 +17,8 @@ use Rattle.event_life.specs.Products.{rows_after}
 use Rattle.office_types.specs.declared.request.Plan.{Plan}
 use Rattle.office_core.specs.Making.{Making, making_of, made_of, broken_lines, broken_product, IsPlanOf}
 use Rattle.office_core.specs.Rules.{broken_request, is_repeated, minute_of}
-use Rattle.office_core.specs.declared.heard.Heard.{Heard}
-use Rattle.office_core.specs.declared.heard.Said.{Said}
+use Rattle.office_core.specs.declared.heard.DeskRecord.{DeskRecord}
+use Rattle.office_core.specs.declared.heard.LastRequest.{LastRequest}
 use Rattle.office_core.specs.declared.made.Made.{Made}
 use Rattle.office_core.specs.State.{State, draft_at, is_draft, said_by}
 
@@ -92,7 +92,7 @@ begun_after s _ = s.begun
 -- ---- the state after
 
 -- the desk's last request is this one
-abbrev pub heard_after : List Heard → List ℕ → Said → List Heard
+abbrev pub heard_after : List DeskRecord → List ℕ → LastRequest → List DeskRecord
 heard_after [] desk said = []
 heard_after (h ∷ heard) desk said = if bytes_eq h.desk desk then record { desk = h.desk; said = Some said } ∷ heard else h ∷ heard_after heard desk said
 

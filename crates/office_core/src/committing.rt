@@ -11,7 +11,7 @@ ghost use Rattle.office_core.specs.Prepared.{HasPlace, MayCommit, begun_with, ch
 ghost use Rattle.office_core.specs.State.{said_by};
 ghost use Rattle.office_core.specs.Step.{heard_after, products_with, rows_with_made, state_after};
 
-use crate::heard::{Heard, Said};
+use crate::heard::{DeskRecord, LastRequest};
 use crate::made::Made;
 use crate::office::Office;
 use crate::prepared::{DraftChange, Prepared};
@@ -38,14 +38,14 @@ fn change_drafts(drafts: &mut Vec<Draft>, change: DraftChange)
 }
 
 /// The index of a desk.
-fn place_of(heard: &[Heard], desk: &Desk) -> Option<usize>
+fn place_of(heard: &[DeskRecord], desk: &Desk) -> Option<usize>
     ensures { result ≡ position (λ h. bytes_eq h.desk desk.now) heard.now }
 {
     heard.iter().position(|h| h.desk.bytes() == desk.bytes())
 }
 
 /// Records a request as the desk's last.
-fn hear(heard: &mut Vec<Heard>, desk: &Desk, said: Said)
+fn record_request(heard: &mut Vec<DeskRecord>, desk: &Desk, said: LastRequest)
     ensures { heard.new.items ≡ heard_after heard.old.items desk.now said }
 {
     if let Some(place) = place_of(heard, desk) {
@@ -121,12 +121,12 @@ impl Office {
             made,
             minute,
         );
-        let said = Said {
+        let said = LastRequest {
             seq,
             request,
             reply,
         };
-        hear(&mut self.heard, &desk, said);
+        record_request(&mut self.heard, &desk, said);
         self.last = minute;
     }
 }

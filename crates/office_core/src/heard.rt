@@ -3,7 +3,7 @@ use office_types::{Desk, Reply, Request};
 
 /// The last accepted request of a desk: its number, what it asks for, and its reply.
 #[derive(Debug, Drop)]
-pub struct Said {
+pub struct LastRequest {
     pub seq: u32,
     pub request: Request,
     pub reply: Reply,
@@ -11,7 +11,7 @@ pub struct Said {
 
 /// A desk with its last accepted request, if it has one.
 #[derive(Debug, Drop)]
-pub struct Heard {
+pub struct DeskRecord {
     pub desk: Desk,
-    pub said: Option<Said>,
+    pub said: Option<LastRequest>,
 }

@@ -34,7 +34,7 @@ pub use answer_laws::{
     a_look_has_one_answer, a_request_has_one_answer,
     accepted_requests_are_accepted_at_their_minute, what_is_prepared_may_wait,
 };
-pub use heard::{Heard, Said};
+pub use heard::{DeskRecord, LastRequest};
 pub use history_laws::{accepted_requests_are_numbered_on, requests_stand_once};
 pub use made::Made;
 pub use office::Office;

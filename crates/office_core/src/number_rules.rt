@@ -4,7 +4,7 @@ ghost use Rattle.std.specs.Prelude.{◌≡◌, IfNone, false, max, nat_abs, opti
 ghost use Rattle.office_core.specs.Rules.{unknown_desk, reused, stale, gap, is_out, clock_out, broken_number};
 ghost use Rattle.office_core.specs.State.{said_in, said_by, last_number};
 
-use crate::heard::{Heard, Said};
+use crate::heard::{DeskRecord, LastRequest};
 use crate::office::Office;
 use hazard_types::Minute;
 use office_types::{Desk, Refusal};
@@ -13,7 +13,7 @@ use office_types::{Desk, Refusal};
 const LAST_READING: i64 = 52_000_000;
 
 /// The last accepted request of a desk.
-fn said_in<'a>(heard: &'a [Heard], desk: &Desk) -> Option<&'a Said>
+fn said_in<'a>(heard: &'a [DeskRecord], desk: &Desk) -> Option<&'a LastRequest>
     ensures { option_map (λ said. said.now) result ≡ said_in heard.now desk.now }
 {
     for h in heard {
@@ -98,7 +98,7 @@ pub(crate) fn later(first: Minute, second: Minute) -> Minute
 
 impl Office {
     /// The last accepted request of a desk.
-    pub(crate) fn said_by(&self, desk: &Desk) -> Option<&Said>
+    pub(crate) fn said_by(&self, desk: &Desk) -> Option<&LastRequest>
         ensures { option_map (λ said. said.now) result ≡ said_by self.now.state desk.now }
     {
         said_in(&self.heard, desk)

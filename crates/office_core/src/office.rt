@@ -3,10 +3,10 @@ ghost use Rattle.std.specs.Prelude.{◌≡◌, ◌≤◌, IfOk, true, length, ma
 ghost use Rattle.desk_settings.specs.AreSettings.{HasForms};
 ghost use Rattle.product_template.specs.Bodies.{is_training};
 ghost use Rattle.office_core.specs.Histories.{MayFollow};
-ghost use Rattle.office_core.specs.State.{first_state, in_edition, said_by, unheard};
+ghost use Rattle.office_core.specs.State.{first_state, in_edition, said_by, no_requests};
 
 use crate::agreement_laws::offices_begin_in_agreement;
-use crate::heard::{Heard, Said};
+use crate::heard::{DeskRecord, LastRequest};
 use crate::prepared::{DraftChange, Prepared};
 use crate::soundness_laws::offices_begin_sound;
 use desk_settings::Settings;
@@ -32,7 +32,7 @@ pub struct Office {
     pub(crate) products: Vec<Sent>,
     pub(crate) drafts: Vec<Draft>,
     pub(crate) begun: u32,
-    pub(crate) heard: Vec<Heard>,
+    pub(crate) heard: Vec<DeskRecord>,
     pub(crate) last: Minute,
 }
 
@@ -69,12 +69,12 @@ fn first_minute() -> Minute
 }
 
 /// The desks, each without a request.
-fn unheard(alloc: Global, desks: &[Desk]) -> Result<List<Heard>, Oom>
-    ensures { IfOk result (λ heard. heard ≡ map unheard desks.now) }
+fn no_requests(alloc: Global, desks: &[Desk]) -> Result<List<DeskRecord>, Oom>
+    ensures { IfOk result (λ heard. heard ≡ map no_requests desks.now) }
 {
     let mut heard = List::new(alloc);
     for desk in desks {
-        heard.push(Heard {
+        heard.push(DeskRecord {
             desk: *desk,
             said: None,
         })?;
@@ -101,7 +101,7 @@ impl Office {
     {
         offices_begin_sound();
         offices_begin_in_agreement();
-        let heard = unheard(alloc, settings.desks.as_slice())?;
+        let heard = no_requests(alloc, settings.desks.as_slice())?;
         let drafts = Vec::with_capacity(alloc, MOST_DRAFTS)?;
         Ok(Office {
             settings,

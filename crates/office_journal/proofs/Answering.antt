@@ -12,7 +12,7 @@ use Rattle.office_core.specs.Prepared.{IsReady, Readied}
 use Rattle.office_core.specs.State.{State, said_by}
 use Rattle.office_core.specs.Step.{Accepts, Repeats, entry_of, state_after}
 use Rattle.office_core.specs.Views.{OfficeView}
-use Rattle.office_core.specs.declared.heard.Said.{Said}
+use Rattle.office_core.specs.declared.heard.LastRequest.{LastRequest}
 use Rattle.office_journal.specs.Bodies.{entry_body}
 use Rattle.office_journal.specs.Changes.{Change, Leaves, body_of}
 use Rattle.office_journal.specs.Histories.{History, IsHistory, bodies}
@@ -136,7 +136,7 @@ module _ {D : Type 0} {d : _} (seen : D → Option (List ℕ)) (crash : D → Cr
     becomes_again (Accepted text) is = absurd is
     becomes_again (Repeated text) is =
         let said : said_by (state_of mid) desk ≡ Some (record { seq = seq; request = r; reply = kept }) = ap (λ (z : State). said_by z desk) state ∙ repeats.same in
-        ((kept, repeats, subst (λ (o : Option Said). IfSome o (λ (s : Said). text ≡ reply_text s.reply)) said is), still_as_before now)
+        ((kept, repeats, subst (λ (o : Option LastRequest). IfSome o (λ (s : LastRequest). text ≡ reply_text s.reply)) said is), still_as_before now)
     becomes_again (Refused x) is = absurd is
     becomes_again DiskFault is = absurd is
     becomes_again OutOfMemory is = still_as_before now

@@ -17,10 +17,10 @@ use Rattle.request_json.specs.Replies.{reply_text}
 use Rattle.office_core.specs.Histories.{Entered, IsNext, LeadFrom}
 use Rattle.office_core.specs.Requests.{same_request}
 use Rattle.office_core.specs.Rules.{broken_request, is_kept, is_repeated, unknown_desk}
-use Rattle.office_core.specs.State.{State, first_state, in_edition, said_by, said_in, unheard}
+use Rattle.office_core.specs.State.{State, first_state, in_edition, said_by, said_in, no_requests}
 use Rattle.office_core.specs.Step.{Refuses, Repeats, heard_after, state_after}
-use Rattle.office_core.specs.declared.heard.Heard.{Heard}
-use Rattle.office_core.specs.declared.heard.Said.{Said}
+use Rattle.office_core.specs.declared.heard.DeskRecord.{DeskRecord}
+use Rattle.office_core.specs.declared.heard.LastRequest.{LastRequest}
 use Rattle.office_core.specs.declared.made.Made.{Made}
 use Rattle.office_core.proofs.AnswerLemmas.{not_refused, not_repeated, some_one}
 use Rattle.office_core.proofs.BrokenLemmas.{known_desk}
@@ -41,47 +41,47 @@ bytes_itself xs = (bytes_eq-Decides xs xs).1 refl
 
 -- ---- one desk among those that are heard
 
-abbrev names : List Heard → List (List ℕ)
-names heard = map (λ (h : Heard). h.desk) heard
+abbrev names : List DeskRecord → List (List ℕ)
+names heard = map (λ (h : DeskRecord). h.desk) heard
 
-here_or_later : (a b rest : Bool) (h : Heard) (heard more : List Heard) (desk : List ℕ) (said : Said) → bytes_eq h.desk desk ≡ a → bytes_eq desk h.desk ≡ b → (b || rest) ≡ true → (rest ≡ true → said_in more desk ≡ Some said)
+here_or_later : (a b rest : Bool) (h : DeskRecord) (heard more : List DeskRecord) (desk : List ℕ) (said : LastRequest) → bytes_eq h.desk desk ≡ a → bytes_eq desk h.desk ≡ b → (b || rest) ≡ true → (rest ≡ true → said_in more desk ≡ Some said)
     → said_in (cond a (record { desk = h.desk; said = Some said } ∷ heard) (h ∷ more)) desk ≡ Some said
 here_or_later true b rest h heard more desk said here there any later = ap (λ (x : Bool). cond x (Some said) (said_in heard desk)) here
 here_or_later false true rest h heard more desk said here there any later = absurd (both_ways _ here (subst (λ (x : List ℕ). bytes_eq x desk ≡ true) (bytes_one desk h.desk there) (bytes_itself desk)))
 here_or_later false false rest h heard more desk said here there any later = ap (λ (x : Bool). cond x h.said (said_in more desk)) here ∙ later any
 
-said_here : (heard : List Heard) (desk : List ℕ) (said : Said) → list_any (bytes_eq desk) (names heard) ≡ true → said_in (heard_after heard desk said) desk ≡ Some said
+said_here : (heard : List DeskRecord) (desk : List ℕ) (said : LastRequest) → list_any (bytes_eq desk) (names heard) ≡ true → said_in (heard_after heard desk said) desk ≡ Some said
 said_here [] desk said any = cc
 said_here (h ∷ heard) desk said any =
     here_or_later (bytes_eq h.desk desk) (bytes_eq desk h.desk) (list_any (bytes_eq desk) (names heard)) h heard (heard_after heard desk said) desk said refl refl any (said_here heard desk said)
 
-other_step : (a b : Bool) (h : Heard) (heard more : List Heard) (desk d : List ℕ) (said : Said) → bytes_eq h.desk desk ≡ a → bytes_eq h.desk d ≡ b → desk ≢ d → said_in more d ≡ said_in heard d
+other_step : (a b : Bool) (h : DeskRecord) (heard more : List DeskRecord) (desk d : List ℕ) (said : LastRequest) → bytes_eq h.desk desk ≡ a → bytes_eq h.desk d ≡ b → desk ≢ d → said_in more d ≡ said_in heard d
     → said_in (cond a (record { desk = h.desk; said = Some said } ∷ heard) (h ∷ more)) d ≡ cond b h.said (said_in heard d)
 other_step true true h heard more desk d said here there other same = absurd (other (sym (bytes_one h.desk desk here) ∙ bytes_one h.desk d there))
 other_step true false h heard more desk d said here there other same = ap (λ (x : Bool). cond x (Some said) (said_in heard d)) there
 other_step false true h heard more desk d said here there other same = ap (λ (x : Bool). cond x h.said (said_in more d)) there
 other_step false false h heard more desk d said here there other same = ap (λ (x : Bool). cond x h.said (said_in more d)) there ∙ same
 
-said_still : (heard : List Heard) (desk d : List ℕ) (said : Said) → desk ≢ d → said_in (heard_after heard desk said) d ≡ said_in heard d
+said_still : (heard : List DeskRecord) (desk d : List ℕ) (said : LastRequest) → desk ≢ d → said_in (heard_after heard desk said) d ≡ said_in heard d
 said_still [] desk d said other = refl
 said_still (h ∷ heard) desk d said other =
     other_step (bytes_eq h.desk desk) (bytes_eq h.desk d) h heard (heard_after heard desk said) desk d said refl refl other (said_still heard desk d said other)
 
-name_step : (b : Bool) (h : Heard) (heard more : List Heard) (said : Said) → names more ≡ names heard → names (cond b (record { desk = h.desk; said = Some said } ∷ heard) (h ∷ more)) ≡ names (h ∷ heard)
+name_step : (b : Bool) (h : DeskRecord) (heard more : List DeskRecord) (said : LastRequest) → names more ≡ names heard → names (cond b (record { desk = h.desk; said = Some said } ∷ heard) (h ∷ more)) ≡ names (h ∷ heard)
 name_step true h heard more said same = refl
 name_step false h heard more said same = ap (λ (ds : List (List ℕ)). h.desk ∷ ds) same
 
-same_names : (heard : List Heard) (desk : List ℕ) (said : Said) → names (heard_after heard desk said) ≡ names heard
+same_names : (heard : List DeskRecord) (desk : List ℕ) (said : LastRequest) → names (heard_after heard desk said) ≡ names heard
 same_names [] desk said = refl
 same_names (h ∷ heard) desk said = name_step (bytes_eq h.desk desk) h heard (heard_after heard desk said) said (same_names heard desk said)
 
-names_unheard : (desks : List (List ℕ)) → names (map unheard desks) ≡ desks
+names_unheard : (desks : List (List ℕ)) → names (map no_requests desks) ≡ desks
 names_unheard [] = refl
 names_unheard (d ∷ desks) = ap (λ (ds : List (List ℕ)). d ∷ ds) (names_unheard desks)
 
 -- ---- along a history
 
-abbrev said_of : Entry → Said
+abbrev said_of : Entry → LastRequest
 said_of e = record { seq = e.seq; request = e.request; reply = e.reply }
 
 heard_next : (s : State) (e : Entry) (made : Option Made) → (state_after s e made).heard ≡ heard_after s.heard e.desk (said_of e)
@@ -123,14 +123,14 @@ module _ (fit : List Entered → Entered → Bool) (earlier : List Entered) (s :
 
   said_then : AreHeard s → SaidLast next y
   said_then all = record {
-    said = ap (λ (hs : List Heard). said_in hs y.entry.desk) heard
+    said = ap (λ (hs : List DeskRecord). said_in hs y.entry.desk) heard
         ∙ said_here s.heard y.entry.desk (said_of y.entry) (ap (list_any (bytes_eq y.entry.desk)) all ∙ is_known (list_any (bytes_eq y.entry.desk) s.settings.desks) known_now);
     known = known_then y.entry.desk known_now;
   }
 
   still_said : (x : Entered) → y.entry.desk ≢ x.entry.desk → SaidLast s x → SaidLast next x
   still_said x other last = record {
-    said = ap (λ (hs : List Heard). said_in hs x.entry.desk) heard ∙ said_still s.heard y.entry.desk x.entry.desk (said_of y.entry) other ∙ last.said;
+    said = ap (λ (hs : List DeskRecord). said_in hs x.entry.desk) heard ∙ said_still s.heard y.entry.desk x.entry.desk (said_of y.entry) other ∙ last.said;
     known = known_then x.entry.desk last.known;
   }
 
@@ -154,8 +154,8 @@ said_last file h s x is last =
 
 -- ---- the same request again
 
-kept_so : (o : Option Said) (said : Said) → o ≡ Some said → is_kept o said.seq said.request ≡ true
-kept_so o said is = ap (λ (z : Option Said). is_kept z said.seq said.request) is ∙ and_from (said.seq == said.seq) (same_request said.request said.request) (eq-eqb said.seq said.seq refl) (request_itself said.request)
+kept_so : (o : Option LastRequest) (said : LastRequest) → o ≡ Some said → is_kept o said.seq said.request ≡ true
+kept_so o said is = ap (λ (z : Option LastRequest). is_kept z said.seq said.request) is ∙ and_from (said.seq == said.seq) (same_request said.request said.request) (eq-eqb said.seq said.seq refl) (request_itself said.request)
 
 unbroken : (s : State) (desk : List ℕ) (seq : ℕ) (r : Request) (reading : ℤ) → is_repeated s desk seq r ≡ true → unknown_desk s desk ≡ None → broken_request s desk seq r reading ≡ None
 unfolding broken_request
@@ -169,7 +169,7 @@ repeats s x last = record {
 
 same_reply : (s : State) (desk : List ℕ) (seq : ℕ) (r : Request) (one other : Reply) → Repeats s desk seq r one → Repeats s desk seq r other → one ≡ other
 same_reply s desk seq r one other a b =
-    ap (λ (said : Said). said.reply) (some_one (record { seq = seq; request = r; reply = one }) (record { seq = seq; request = r; reply = other }) (said_by s desk) a.same b.same)
+    ap (λ (said : LastRequest). said.reply) (some_one (record { seq = seq; request = r; reply = one }) (record { seq = seq; request = r; reply = other }) (said_by s desk) a.same b.same)
 
 module _ {D : Type 0} {d : _} (seen : D → Option (List ℕ)) (crash : D → Crashes) (faults : D → ℕ) (old new : KeptOffice D d) (desk : List ℕ) (seq : ℕ) (r : Request) (reading : ℤ) (reply : Reply) (again : Repeats (state_of old) desk seq r reply) where
   not_offered : (x : Entered) → IsOffered (state_of old) desk seq r reading x → ⊥

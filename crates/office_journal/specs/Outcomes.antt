@@ -10,7 +10,7 @@ use Rattle.office_core.specs.Agreement.{ReadsAsTheBoard}
 use Rattle.office_core.specs.Histories.{Entered}
 use Rattle.office_core.specs.Prepared.{Readied}
 use Rattle.office_core.specs.Step.{state_after}
-use Rattle.office_core.specs.declared.heard.Said.{Said}
+use Rattle.office_core.specs.declared.heard.LastRequest.{LastRequest}
 use Rattle.office_journal.specs.Bodies.{entry_body}
 use Rattle.office_journal.specs.Changes.{Change, Leaves, changed}
 use Rattle.office_journal.specs.Histories.{History}
@@ -70,9 +70,9 @@ IsUnkept gate x DiskFault = ⊥
 IsUnkept gate x OutOfMemory = Unit {0}
 
 -- the kept reply, or no memory
-abbrev pub IsAgain : Option Said → Answer → Type 0
+abbrev pub IsAgain : Option LastRequest → Answer → Type 0
 IsAgain said (Accepted text) = ⊥
-IsAgain said (Repeated text) = IfSome said (λ (s : Said). text ≡ reply_text s.reply)
+IsAgain said (Repeated text) = IfSome said (λ (s : LastRequest). text ≡ reply_text s.reply)
 IsAgain said (Refused broken) = ⊥
 IsAgain said DiskFault = ⊥
 IsAgain said OutOfMemory = Unit {0}

@@ -3,7 +3,7 @@ ghost use Rattle.std.specs.Prelude.{◌≡◌, Err, IfOk, length};
 ghost use Rattle.hazard_types.specs.declared.or.Or.TheVariants.{No};
 ghost use Rattle.office_types.specs.declared.refusal.Refusal.{Refusal as Refused};
 ghost use Rattle.office_core.specs.Look.{RefusesLook, Shows};
-ghost use Rattle.office_journal.specs.Kept.{disk_of, entries_of, notes_of, state_of};
+ghost use Rattle.office_journal.specs.Kept.{disk_of, entries_of, state_of};
 
 use crate::kept::KeptOffice;
 use desk_traits::Disk;
@@ -17,13 +17,6 @@ impl<D: Disk> KeptOffice<D> {
         ensures { result ≡ entries_of self.now }
     {
         self.entries
-    }
-
-    /// Returns how many requests met a disk fault since the office was opened.
-    pub fn fault_notes(&self) -> u64
-        ensures { result ≡ notes_of self.now }
-    {
-        self.notes
     }
 
     /// Returns how many products were sent.

@@ -59,7 +59,7 @@ impl KeptReply {
 }
 
 /// Returns an answer, and with an acceptance or a disk fault also what was prepared.
-fn beside(answer: Answer, p: Snapshot<Prepared>) -> (Answer, Option<Snapshot<Prepared>>)
+fn with_prepared(answer: Answer, p: Snapshot<Prepared>) -> (Answer, Option<Snapshot<Prepared>>)
     ensures answer { result.0 ≡ answer }
     ensures told { StandsBeside answer p.value (option_map (λ told. told.value) result.1) }
 {
@@ -147,9 +147,9 @@ impl<D: Disk> KeptOffice<D> {
             Ok(ready) => match ready {
                 Ready::New(p) => {
                     let told = Snapshot::of(&p);
-                    beside(self.append_prepared(alloc, desk, seq, r, p), told)
+                    with_prepared(self.append_prepared(alloc, desk, seq, r, p), told)
                 }
-                Ready::Again => (self.again(alloc, desk), None),
+                Ready::Again => (self.repeated_answer(alloc, desk), None),
             },
             Err(fault) => match fault {
                 Or::No(refusal) => (Answer::Refused(refusal), None),
@@ -159,7 +159,7 @@ impl<D: Disk> KeptOffice<D> {
     }
 
     /// Returns the answer to a desk's last request when it comes again.
-    fn again(&self, alloc: Global, desk: Desk) -> Answer
+    fn repeated_answer(&self, alloc: Global, desk: Desk) -> Answer
         requires { is_some (said_by (state_of self.now) desk) ≡ true }
         ensures { IsAgain (said_by (state_of self.now) desk) result }
     {

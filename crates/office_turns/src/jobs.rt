@@ -1,7 +1,7 @@
 //! The jobs of a turn at a shared office. Each reads the clock in its turn (docs/DECISIONS.md, "The
 //! server").
 use crate::shared::Story;
-use crate::tied::Tied;
+use crate::tied::WithStory;
 use desk_traits::{Clock, Disk};
 use hazard_types::{Or, Text};
 use office_journal::{Answer, KeptOffice};
@@ -18,7 +18,7 @@ pub struct Submit<'a, C> {
     pub clock: &'a C,
 }
 
-impl<'a, D: Disk, C: Clock> Job<Tied<KeptOffice<D>, Story<D>>> for Submit<'a, C> {
+impl<'a, D: Disk, C: Clock> Job<WithStory<KeptOffice<D>, Story<D>>> for Submit<'a, C> {
     ghost use Rattle.request_json.specs.Formed.{HasForm};
     ghost use Rattle.office_turns.specs.Submitted.{SubmittedAt};
 
@@ -29,7 +29,7 @@ impl<'a, D: Disk, C: Clock> Job<Tied<KeptOffice<D>, Story<D>>> for Submit<'a, C>
     ghost meets = { λ job base before after answer. SubmittedAt base before after
         (C.gives job.clock.now) job.asked.now answer };
 
-    fn run(self, value: &mut Tied<KeptOffice<D>, Story<D>>) -> Answer {
+    fn run(self, value: &mut WithStory<KeptOffice<D>, Story<D>>) -> Answer {
         let reading = self.clock.minute();
         value.submit(self.alloc, self.asked, reading)
     }
@@ -43,7 +43,7 @@ pub struct Look<'a, C> {
     pub clock: &'a C,
 }
 
-impl<'a, D: Disk, C: Clock> Job<Tied<KeptOffice<D>, Story<D>>> for Look<'a, C> {
+impl<'a, D: Disk, C: Clock> Job<WithStory<KeptOffice<D>, Story<D>>> for Look<'a, C> {
     ghost use Rattle.office_turns.specs.Submitted.{LookedAt};
 
     type Out = Result<Text, Or<Refusal>>;
@@ -53,7 +53,7 @@ impl<'a, D: Disk, C: Clock> Job<Tied<KeptOffice<D>, Story<D>>> for Look<'a, C> {
     ghost meets = { λ job base before after answer. LookedAt base before after
         (C.gives job.clock.now) job.query.now answer };
 
-    fn run(self, value: &mut Tied<KeptOffice<D>, Story<D>>) -> Result<Text, Or<Refusal>> {
+    fn run(self, value: &mut WithStory<KeptOffice<D>, Story<D>>) -> Result<Text, Or<Refusal>> {
         let reading = self.clock.minute();
         value.look(self.alloc, self.query, reading)
     }

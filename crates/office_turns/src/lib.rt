@@ -13,5 +13,5 @@ mod turns;
 pub use happening::Happening;
 pub use jobs::{Look, Submit};
 pub use shared::{SharedOffice, Story};
-pub use tied::{Tied, Told};
+pub use tied::{HasStory, WithStory};
 pub use turns::submit_in_turn;

@@ -3,7 +3,7 @@ ghost use Rattle.std.specs.Prelude.{◌≡◌, []};
 ghost use Rattle.office_turns.specs.Since.{IsSince};
 
 use crate::happening::Happening;
-use crate::tied::{Tied, Told};
+use crate::tied::{HasStory, WithStory};
 use desk_traits::Disk;
 use office_journal::KeptOffice;
 use std::alloc::Global;
@@ -17,14 +17,14 @@ pub struct Story<D: Disk> {
     pub happenings: Vec<Happening<D>>,
 }
 
-impl<D: Disk> Told<Story<D>> for KeptOffice<D> {
-    ghost ties = { λ kept story. IsSince D.Disk story.opened.value kept story.happenings.items };
+impl<D: Disk> HasStory<Story<D>> for KeptOffice<D> {
+    ghost agrees = { λ kept story. IsSince D.Disk story.opened.value kept story.happenings.items };
 }
 
 /// An office together with what happened to it since it was opened.
-pub type SharedOffice<D> = Tied<KeptOffice<D>, Story<D>>;
+pub type SharedOffice<D> = WithStory<KeptOffice<D>, Story<D>>;
 
-impl<D: Disk> Tied<KeptOffice<D>, Story<D>> {
+impl<D: Disk> WithStory<KeptOffice<D>, Story<D>> {
     /// Returns a shared office of `kept`, to which nothing has happened yet.
     pub fn open(alloc: Global, kept: KeptOffice<D>) -> Self
         ensures opened { result.story.opened.value ≡ kept }
@@ -33,7 +33,7 @@ impl<D: Disk> Tied<KeptOffice<D>, Story<D>> {
     {
         kept.a_crash_leaves_the_history();
         let opened = Snapshot::of(&kept);
-        Tied {
+        WithStory {
             kept,
             story: Story {
                 opened,
@@ -47,12 +47,12 @@ impl<D: Disk> Tied<KeptOffice<D>, Story<D>> {
         ensures same { result ≡ self.kept }
         ensures since { IsSince D.Disk self.story.opened.value result self.story.happenings.items }
     {
-        let Tied { kept, .. } = self;
+        let WithStory { kept, .. } = self;
         kept
     }
 }
 
-impl<D: Disk> Storied for Tied<KeptOffice<D>, Story<D>> {
+impl<D: Disk> Storied for WithStory<KeptOffice<D>, Story<D>> {
     type Base = KeptOffice<D>;
 
     type Entry = Happening<D>;

@@ -7,7 +7,7 @@ ghost use Rattle.office_turns.specs.Submitted.{Shown, Submitted};
 
 use crate::happening::Happening;
 use crate::shared::Story;
-use crate::tied::Tied;
+use crate::tied::WithStory;
 use desk_traits::Disk;
 use hazard_types::{Or, Text};
 use office_core::Prepared;
@@ -43,7 +43,7 @@ fn note<D: Disk>(
     }
 }
 
-impl<D: Disk> Tied<KeptOffice<D>, Story<D>> {
+impl<D: Disk> WithStory<KeptOffice<D>, Story<D>> {
     /// Submits a request at a reading of the clock, in minutes since 2000-01-01T00:00Z UTC, and
     /// returns its answer. All memory is taken before the first call of the disk.
     pub fn submit(&mut self, alloc: Global, asked: &Asked, reading: i64) -> Answer

@@ -2,25 +2,25 @@
 use std::marker::Model;
 
 /// A value of which a history `S` may be true.
-pub trait Told<S> {
+pub trait HasStory<S> {
     /// Whether the history is true of the value.
-    ghost ties: { Self → S → Type 0 };
+    ghost agrees: { Self → S → Type 0 };
 }
 
 /// A value with its history. Both are type parameters, so that the pair may cross threads
 /// (docs/DECISIONS.md, "Turns").
 #[derive(Drop)]
-pub struct Tied<K: Told<S>, S> {
+pub struct WithStory<K: HasStory<S>, S> {
     pub(crate) kept: K,
     pub(crate) story: S,
 }
 
-impl<K: Told<S>, S> Model for Tied<K, S> {
+impl<K: HasStory<S>, S> Model for WithStory<K, S> {
     ghost use Rattle.office_turns.specs.Tying.{Beside};
 
     ghost Value = { Beside K S };
 
     ghost view = { λ t. record { kept = t.kept; story = t.story } };
 
-    ghost invariant = { λ t. K.ties t.kept t.story };
+    ghost invariant = { λ t. K.agrees t.kept t.story };
 }

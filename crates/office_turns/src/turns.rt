@@ -5,7 +5,7 @@ ghost use Rattle.office_turns.specs.Turns.{SubmitsInTurn};
 
 use crate::jobs::{Look, Submit};
 use crate::shared::Story;
-use crate::tied::Tied;
+use crate::tied::WithStory;
 use desk_traits::{Clock, Disk};
 use office_journal::{Answer, KeptOffice};
 use request_json::Asked;
@@ -17,8 +17,8 @@ use turn_lock::{Pass, TurnLock};
 /// reads the clock in it.
 pub fn submit_in_turn<R: Wait, D: Disk, C: Clock>(
     rt: &R,
-    lock: &TurnLock<Tied<KeptOffice<D>, Story<D>>>,
-    pass: &mut Pass<Tied<KeptOffice<D>, Story<D>>>,
+    lock: &TurnLock<WithStory<KeptOffice<D>, Story<D>>>,
+    pass: &mut Pass<WithStory<KeptOffice<D>, Story<D>>>,
     alloc: Global,
     asked: &Asked,
     clock: &C,
@@ -45,8 +45,8 @@ fn may_be_shared<X: Sync>(_value: &X) {}
 /// Shows that a lock over a shared office may be shared by threads, and that passes and jobs may
 /// cross them.
 fn cross<D: Disk + Send, C: Sync>(
-    lock: &TurnLock<Tied<KeptOffice<D>, Story<D>>>,
-    pass: &Pass<Tied<KeptOffice<D>, Story<D>>>,
+    lock: &TurnLock<WithStory<KeptOffice<D>, Story<D>>>,
+    pass: &Pass<WithStory<KeptOffice<D>, Story<D>>>,
     submit: &Submit<'_, C>,
     look: &Look<'_, C>,
 ) {

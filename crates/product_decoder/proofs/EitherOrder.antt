@@ -11,7 +11,7 @@ use Rattle.hazard_types.specs.declared.line.Line.{Line}
 use Rattle.hazard_types.proofs.Equality.{event_itself}
 use Rattle.row_index.specs.declared.verdicts.Verdict.{Verdict}
 use Rattle.row_index.specs.Runs.{in_zone}
-use Rattle.row_index.specs.Verdicts.{HaveOwnEvents, is_lawful}
+use Rattle.row_index.specs.Verdicts.{HaveOwnEvents, leaves_row}
 use Rattle.product_decoder.specs.Lives.{Living, by_living}
 use Rattle.product_decoder.specs.Steps.{Step, Steps, steps_at, with_step, living_of, with_line}
 use Rattle.product_decoder.specs.ZoneSteps.{with_run, with_verdict}
@@ -94,7 +94,7 @@ line_apart issue l m steps h =
 module _ (issue : ℕ) where
   -- with the step of a line, where it is lawful, in a zone
   abbrev pub one : Place → Steps → Verdict → Steps
-  one z steps v = cond (is_lawful v) (with_line issue steps (in_zone v.line z)) steps
+  one z steps v = cond (leaves_row v) (with_line issue steps (in_zone v.line z)) steps
 
   -- and in each of some zones
   abbrev pub each : Verdict → Steps → List Place → Steps
@@ -115,7 +115,7 @@ module _ (issue : ℕ) where
   one_past z y v [] steps h = refl
   one_past z y v (w ∷ ws) steps h =
       one_past z y v ws (one y steps w) h.1
-      ∙ ap (λ (s : Steps). fold (one y) s ws) (one_one (is_lawful v) (is_lawful w) (in_zone v.line z) (in_zone w.line y) steps h.0)
+      ∙ ap (λ (s : Steps). fold (one y) s ws) (one_one (leaves_row v) (leaves_row w) (in_zone v.line z) (in_zone w.line y) steps h.0)
 
   each_past : (y : Place) (v : Verdict) (ws : List Verdict) (zones : List Place) (steps : Steps) → AreOthers v ws → each v (fold (one y) steps ws) zones ≡ fold (one y) (each v steps zones) ws
   each_past y v ws [] steps h = refl
@@ -149,7 +149,7 @@ module _ (issue : ℕ) where
   each_by false l (z ∷ zones) steps = each_by false l zones steps
 
   each_told : (zones : List Place) (v : Verdict) (steps : Steps) → each v steps zones ≡ with_verdict issue zones steps v
-  each_told zones v steps = each_by (is_lawful v) v.line zones steps
+  each_told zones v steps = each_by (leaves_row v) v.line zones steps
 
   -- what the lines of a run do zone by zone they do line by line
   pub turned_run : (vs : List Verdict) (zones : List Place) (steps : Steps) → HaveOwnEvents (map (λ (v : Verdict). v.line) vs)

@@ -14,7 +14,7 @@ use Rattle.event_life.specs.Products.{is_new, is_routine, lawful_of}
 use Rattle.row_index.specs.declared.verdicts.Run.{Run}
 use Rattle.row_index.specs.declared.verdicts.Verdict.{Verdict}
 use Rattle.row_index.specs.Runs.{in_zone}
-use Rattle.row_index.specs.Verdicts.{spelled, spelled_at}
+use Rattle.row_index.specs.Verdicts.{expand, expand_at}
 use Rattle.product_decoder.specs.Runs.{Judged, judged_by, firsts_in, firsts_of}
 
 -- an event that is added twice is added once
@@ -103,9 +103,9 @@ firsts_told : (vs : List Verdict) (rest : List Judged) → opened_by (lawful_of 
 firsts_told [] rest = refl
 firsts_told (v ∷ vs) rest = one_more v.line v.breach (map judged_by vs ++ rest) ∙ ap (opened_with v.line v.breach) (firsts_told vs rest)
 
-zone_told : (z : Place) (vs : List Verdict) (rest : List Judged) → opened_by (lawful_of (spelled_at vs z ++ rest)) ≡ all_opened vs (opened_by (lawful_of rest))
+zone_told : (z : Place) (vs : List Verdict) (rest : List Judged) → opened_by (lawful_of (expand_at vs z ++ rest)) ≡ all_opened vs (opened_by (lawful_of rest))
 zone_told z [] rest = refl
-zone_told z (v ∷ vs) rest = one_more (in_zone v.line z) v.breach (spelled_at vs z ++ rest) ∙ ap (opened_with v.line v.breach) (zone_told z vs rest)
+zone_told z (v ∷ vs) rest = one_more (in_zone v.line z) v.breach (expand_at vs z ++ rest) ∙ ap (opened_with v.line v.breach) (zone_told z vs rest)
 
 -- said again, they add nothing
 
@@ -124,25 +124,25 @@ again (v ∷ vs) events =
 
 -- one zone more
 zone_more : (z : Place) (zones : List Place) (vs : List Verdict) (rest : List Judged)
-    → opened_by (lawful_of (flat_map (spelled_at vs) (z ∷ zones) ++ rest)) ≡ all_opened vs (opened_by (lawful_of (flat_map (spelled_at vs) zones ++ rest)))
+    → opened_by (lawful_of (flat_map (expand_at vs) (z ∷ zones) ++ rest)) ≡ all_opened vs (opened_by (lawful_of (flat_map (expand_at vs) zones ++ rest)))
 zone_more z zones vs rest =
-    ap (λ (judged : List Judged). opened_by (lawful_of judged)) (append_assoc (spelled_at vs z) (flat_map (spelled_at vs) zones) rest)
-    ∙ zone_told z vs (flat_map (spelled_at vs) zones ++ rest)
+    ap (λ (judged : List Judged). opened_by (lawful_of judged)) (append_assoc (expand_at vs z) (flat_map (expand_at vs) zones) rest)
+    ∙ zone_told z vs (flat_map (expand_at vs) zones ++ rest)
 
 -- in front of what they open, other zones add nothing
-zones_again : (zones : List Place) (vs : List Verdict) (rest : List Judged) → all_opened vs (opened_by (lawful_of (flat_map (spelled_at vs) zones ++ rest))) ≡ all_opened vs (opened_by (lawful_of rest))
+zones_again : (zones : List Place) (vs : List Verdict) (rest : List Judged) → all_opened vs (opened_by (lawful_of (flat_map (expand_at vs) zones ++ rest))) ≡ all_opened vs (opened_by (lawful_of rest))
 zones_again [] vs rest = refl
 zones_again (z ∷ zones) vs rest =
-    ap (all_opened vs) (zone_more z zones vs rest) ∙ again vs (opened_by (lawful_of (flat_map (spelled_at vs) zones ++ rest))) ∙ zones_again zones vs rest
+    ap (all_opened vs) (zone_more z zones vs rest) ∙ again vs (opened_by (lawful_of (flat_map (expand_at vs) zones ++ rest))) ∙ zones_again zones vs rest
 
 -- a run in front of others
 run_opened : (zones : List Place) (vs : List Verdict) (firsts rest : List Judged) → opened_by (lawful_of firsts) ≡ opened_by (lawful_of rest)
-    → opened_by (lawful_of (firsts_in (record { zones = zones; verdicts = vs }) ++ firsts)) ≡ opened_by (lawful_of (flat_map (spelled_at vs) zones ++ rest))
+    → opened_by (lawful_of (firsts_in (record { zones = zones; verdicts = vs }) ++ firsts)) ≡ opened_by (lawful_of (flat_map (expand_at vs) zones ++ rest))
 run_opened [] vs firsts rest h = h
 run_opened (z ∷ zones) vs firsts rest h =
     firsts_told vs firsts ∙ ap (all_opened vs) h
     ∙ sym (zones_again zones vs rest) ∙ sym (zone_more z zones vs rest)
 
-pub firsts_opened : (runs : List Run) → opened_by (lawful_of (firsts_of runs)) ≡ opened_by (lawful_of (spelled runs))
+pub firsts_opened : (runs : List Run) → opened_by (lawful_of (firsts_of runs)) ≡ opened_by (lawful_of (expand runs))
 firsts_opened [] = refl
-firsts_opened (r ∷ runs) = run_opened r.zones r.verdicts (firsts_of runs) (spelled runs) (firsts_opened runs)
+firsts_opened (r ∷ runs) = run_opened r.zones r.verdicts (firsts_of runs) (expand runs) (firsts_opened runs)

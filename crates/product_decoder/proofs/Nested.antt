@@ -18,7 +18,7 @@ use Rattle.row_index.proofs.Tests.{insert-sorted}
 use Rattle.row_index.specs.declared.verdicts.Run.{Run}
 use Rattle.row_index.specs.declared.verdicts.Verdict.{Verdict}
 use Rattle.row_index.specs.Runs.{in_zone}
-use Rattle.row_index.specs.Verdicts.{HaveOwnEvents, is_lawful, spelled, spelled_at, spelled_run}
+use Rattle.row_index.specs.Verdicts.{HaveOwnEvents, leaves_row, expand, expand_at, expand_run}
 use Rattle.product_decoder.specs.Runs.{Judged}
 use Rattle.product_decoder.specs.Lives.{Living, by_living}
 use Rattle.product_decoder.specs.Steps.{Step, Steps, steps_at, with_step, with_line, with_lines, with_runs, tracks_told, track_told}
@@ -180,39 +180,39 @@ lawful_both (x ∷ xs) ys = by_test (not (is_routine x.0.action) && is_none x.1)
 lines_both : (issue : ℕ) (steps : Steps) (xs ys : List Judged) → with_lines issue steps (xs ++ ys) ≡ with_lines issue (with_lines issue steps xs) ys
 lines_both issue steps xs ys = ap (λ (lines : List Line). fold (with_line issue) steps lines) (lawful_both xs ys) ∙ fold-append (with_line issue) steps (lawful_of xs) (lawful_of ys)
 
-pub runs_told : (issue : ℕ) (steps : Steps) (runs : List Run) → with_runs issue steps runs ≡ with_lines issue steps (spelled runs)
+pub runs_told : (issue : ℕ) (steps : Steps) (runs : List Run) → with_runs issue steps runs ≡ with_lines issue steps (expand runs)
 runs_told issue steps [] = refl
-runs_told issue steps (r ∷ runs) = runs_told issue (with_lines issue steps (spelled_run r)) runs ∙ sym (lines_both issue steps (spelled_run r) (spelled runs))
+runs_told issue steps (r ∷ runs) = runs_told issue (with_lines issue steps (expand_run r)) runs ∙ sym (lines_both issue steps (expand_run r) (expand runs))
 
 -- in one zone
-zone_lines : (issue : ℕ) (z : Place) (vs : List Verdict) (steps : Steps) → with_lines issue steps (spelled_at vs z) ≡ fold (one issue z) steps vs
+zone_lines : (issue : ℕ) (z : Place) (vs : List Verdict) (steps : Steps) → with_lines issue steps (expand_at vs z) ≡ fold (one issue z) steps vs
 zone_lines issue z [] steps = refl
-zone_lines issue z (v ∷ vs) steps = by_test (is_lawful v) (zone_lines issue z vs)
+zone_lines issue z (v ∷ vs) steps = by_test (leaves_row v) (zone_lines issue z vs)
   where
-    by_test : (b : Bool) → ((s : Steps) → with_lines issue s (spelled_at vs z) ≡ fold (one issue z) s vs)
-        → fold (with_line issue) steps (cond b (in_zone v.line z ∷ lawful_of (spelled_at vs z)) (lawful_of (spelled_at vs z))) ≡ fold (one issue z) (cond b (with_line issue steps (in_zone v.line z)) steps) vs
+    by_test : (b : Bool) → ((s : Steps) → with_lines issue s (expand_at vs z) ≡ fold (one issue z) s vs)
+        → fold (with_line issue) steps (cond b (in_zone v.line z ∷ lawful_of (expand_at vs z)) (lawful_of (expand_at vs z))) ≡ fold (one issue z) (cond b (with_line issue steps (in_zone v.line z)) steps) vs
     by_test true later = later (with_line issue steps (in_zone v.line z))
     by_test false later = later steps
 
 -- in each of some zones
-zones_lines : (issue : ℕ) (vs : List Verdict) (zones : List Place) (steps : Steps) → with_lines issue steps (flat_map (spelled_at vs) zones) ≡ fold (λ (s : Steps) (z : Place). fold (one issue z) s vs) steps zones
+zones_lines : (issue : ℕ) (vs : List Verdict) (zones : List Place) (steps : Steps) → with_lines issue steps (flat_map (expand_at vs) zones) ≡ fold (λ (s : Steps) (z : Place). fold (one issue z) s vs) steps zones
 zones_lines issue vs [] steps = refl
 zones_lines issue vs (z ∷ zones) steps =
-    lines_both issue steps (spelled_at vs z) (flat_map (spelled_at vs) zones)
-    ∙ ap (λ (s : Steps). with_lines issue s (flat_map (spelled_at vs) zones)) (zone_lines issue z vs steps)
+    lines_both issue steps (expand_at vs z) (flat_map (expand_at vs) zones)
+    ∙ ap (λ (s : Steps). with_lines issue s (flat_map (expand_at vs) zones)) (zone_lines issue z vs steps)
     ∙ zones_lines issue vs zones (fold (one issue z) steps vs)
 
 -- line by line
-pub run_told : (issue : ℕ) (r : Run) (steps : Steps) → HaveOwnEvents (map (λ (v : Verdict). v.line) r.verdicts) → fold (with_verdict issue r.zones) steps r.verdicts ≡ with_lines issue steps (spelled_run r)
+pub run_told : (issue : ℕ) (r : Run) (steps : Steps) → HaveOwnEvents (map (λ (v : Verdict). v.line) r.verdicts) → fold (with_verdict issue r.zones) steps r.verdicts ≡ with_lines issue steps (expand_run r)
 run_told issue r steps h = sym (zones_lines issue r.verdicts r.zones steps ∙ turned_run issue r.verdicts r.zones steps h)
 
 -- a line that is lawful
-pub verdict_lawful : (issue : ℕ) (v : Verdict) (es new : Events) (zones : List Place) → AreAscending es → is_lawful v ≡ true
+pub verdict_lawful : (issue : ℕ) (v : Verdict) (es new : Events) (zones : List Place) → AreAscending es → leaves_row v ≡ true
     → new ≡ insert_entry by_event es v.line.event (with_zones (v.line.action, issue) (zones_at es v.line.event) zones) → flat new ≡ with_verdict issue zones (flat es) v
 verdict_lawful issue v es new zones up h is = rw h (run_put (v.line.action, issue) v.line.event es new zones up is)
 
 -- and one that is not
-pub verdict_passed : (issue : ℕ) (v : Verdict) (steps : Steps) (zones : List Place) → is_lawful v ≡ false → steps ≡ with_verdict issue zones steps v
+pub verdict_passed : (issue : ℕ) (v : Verdict) (steps : Steps) (zones : List Place) → leaves_row v ≡ false → steps ≡ with_verdict issue zones steps v
 verdict_passed issue v steps zones h = rw h refl
 
 -- the lives that one event's steps more tell

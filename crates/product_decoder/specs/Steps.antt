@@ -6,7 +6,7 @@ use Rattle.hazard_types.specs.declared.codes.Action.{Action}
 use Rattle.hazard_types.specs.declared.line.Line.{Line}
 use Rattle.event_life.specs.Products.{lawful_of}
 use Rattle.row_index.specs.declared.verdicts.Run.{Run}
-use Rattle.row_index.specs.Verdicts.{spelled_run}
+use Rattle.row_index.specs.Verdicts.{expand_run}
 use Rattle.product_decoder.specs.Runs.{Judged, Taken}
 use Rattle.product_decoder.specs.declared.types.Track.{Track}
 use Rattle.product_decoder.specs.Lives.{Living, by_living}
@@ -40,7 +40,7 @@ with_lines issue steps judged = fold (with_line issue) steps (lawful_of judged)
 -- those of the lawful lines of runs
 abbrev pub with_runs : ℕ → Steps → List Run → Steps
 with_runs issue steps [] = steps
-with_runs issue steps (r ∷ runs) = with_runs issue (with_lines issue steps (spelled_run r)) runs
+with_runs issue steps (r ∷ runs) = with_runs issue (with_lines issue steps (expand_run r)) runs
 
 -- those of the lawful lines of a product
 abbrev pub with_product : Steps → Taken → Steps

@@ -7,7 +7,7 @@ use Rattle.hazard_types.specs.Orders.{by_event}
 use Rattle.hazard_types.specs.Places.{Place, by_place}
 use Rattle.hazard_types.specs.declared.hazard.Event.{Event}
 use Rattle.row_index.specs.declared.verdicts.Verdict.{Verdict}
-use Rattle.row_index.specs.Verdicts.{is_lawful}
+use Rattle.row_index.specs.Verdicts.{leaves_row}
 use Rattle.product_decoder.specs.Chains.{chains_of}
 use Rattle.product_decoder.specs.declared.zone_steps.SharedStep.{SharedStep}
 use Rattle.product_decoder.specs.Steps.{Step, Steps, with_step}
@@ -71,4 +71,4 @@ with_run step e steps places = fold (λ (steps : Steps) (z : Place). with_step s
 
 -- with the step of a line, where it is lawful, in each of these zones
 abbrev pub with_verdict : ℕ → List Place → Steps → Verdict → Steps
-with_verdict issue zones steps v = if is_lawful v then with_run (v.line.action, issue) v.line.event steps zones else steps
+with_verdict issue zones steps v = if leaves_row v then with_run (v.line.action, issue) v.line.event steps zones else steps

@@ -7,7 +7,7 @@ ghost use Rattle.product_decoder.specs.Decoded.{decoded_of};
 ghost use Rattle.product_decoder.specs.FrameLines.{event_pair, event_pairs, line_in, lines_in as lines_along, lines_in_segments};
 ghost use Rattle.product_decoder.specs.ReaderModel.{said_by, product_of};
 ghost use Rattle.product_decoder.specs.Takings.{IsKnown};
-ghost use Rattle.row_index.specs.Verdicts.{lines_in, spelled, AreApart, AreFound};
+ghost use Rattle.row_index.specs.Verdicts.{lines_in, expand, AreApart, AreFound};
 
 use crate::taken::{Known, end_of, event_of, is_vtec_by};
 use hazard_types::{Class, Event, Flood, Line, List, Minute, Oom, Vtec, Zone};
@@ -161,7 +161,7 @@ pub fn judged_by_frame(
     rows: &RowIndex,
     frame: &Frame,
 ) -> Result<List<Run>, Oom>
-    ensures told { IfOk result (λ runs. spelled runs
+    ensures told { IfOk result (λ runs. expand runs
         ≡ judged_product rows.now (product_of office.now class.now (decoded_of frame.now))) }
     ensures found { IfOk result (λ runs. AreFound rows.now runs) }
     ensures apart { IfOk result (λ runs. AreApart runs) }

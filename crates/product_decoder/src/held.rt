@@ -132,7 +132,7 @@ impl Held {
 
     /// Passes over whole lines before the first heading line, or over all whole lines if there is
     /// none.
-    fn settle(&mut self)
+    fn skip_to_heading(&mut self)
         requires { HeldIs self.old }
         ensures holds { HeldIs self.new }
         ensures trimmed { IsTrimmed (rest_of self.old) (rest_of self.new) }
@@ -190,7 +190,7 @@ impl Held {
             (λ text. TakesWhole (rest_of self.old) text (rest_of self.new)) }
         ensures err { OnErr result (Keeps (rest_of self.old) (rest_of self.new)) }
     {
-        self.settle();
+        self.skip_to_heading();
         if !self.headed {
             return Ok(None);
         }
@@ -292,7 +292,7 @@ impl Held {
         ensures taken { IfOk result (λ text. TakesLast (rest_of self.old) text (rest_of self.new)) }
         ensures err { OnErr result (Keeps (rest_of self.old) (rest_of self.new)) }
     {
-        self.settle();
+        self.skip_to_heading();
         if !self.headed {
             return self.last_line(alloc);
         }

@@ -7,7 +7,7 @@ ghost use Rattle.product_decoder.specs.Openings.{opening_of, openings_in, lawful
 use crate::reader::Reader;
 use crate::taken::Taken;
 use crate::types::Opening;
-use event_life::{Breach, is_lawful, opened_period};
+use event_life::{Breach, leaves_row, opened_period};
 use hazard_types::{Action, Line, List, Minute, Oom};
 use std::alloc::Global;
 
@@ -50,7 +50,7 @@ fn openings_in(
 {
     let mut out = List::new(alloc);
     for found in judged {
-        if is_lawful(found) {
+        if leaves_row(found) {
             put_opening(&mut out, t, &found.0)?;
         }
     }
@@ -63,7 +63,7 @@ fn lawful_in(alloc: Global, judged: &[(Line, Option<Breach>)]) -> Result<List<Li
 {
     let mut out = List::new(alloc);
     for found in judged {
-        if is_lawful(found) {
+        if leaves_row(found) {
             out.extend(&[found.0])?;
         }
     }

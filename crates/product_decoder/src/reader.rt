@@ -12,7 +12,7 @@ ghost use Rattle.product_decoder.specs.Decoded.{decoded_of};
 ghost use Rattle.product_decoder.specs.Lives.{by_life};
 ghost use Rattle.product_decoder.specs.ReaderModel.{product_of, lives_of, found_of, gaps_found};
 ghost use Rattle.product_decoder.specs.Takings.{product_judged};
-ghost use Rattle.row_index.specs.Verdicts.{spelled, AreApart, AreFound};
+ghost use Rattle.row_index.specs.Verdicts.{expand, AreApart, AreFound};
 
 use crate::findings::{breaches_in, gaps_in};
 use crate::frame_lines::judged_by_frame;
@@ -85,14 +85,14 @@ impl Reader {
     ) -> Result<(), Oom>
         requires rows { rows ≡ rows_of self.old.products }
         requires few { length self.old.products < 4294967295 }
-        requires judged { spelled runs ≡ judged_product rows
-            (product_judged self.old.office self.old.class issue (spelled runs)) }
+        requires judged { expand runs ≡ judged_product rows
+            (product_judged self.old.office self.old.class issue (expand runs)) }
         requires found { AreFound rows runs }
         requires apart { AreApart runs }
         ensures office { self.new.office ≡ self.old.office }
         ensures class { self.new.class ≡ self.old.class }
         ensures ok { OnOk result (self.new.products ≡ self.old.products
-            ++ product_judged self.old.office self.old.class issue (spelled runs) ∷ []) }
+            ++ product_judged self.old.office self.old.class issue (expand runs) ∷ []) }
         ensures err { OnErr result (self.new.products ≡ self.old.products) }
     {
         let after = rows.leave_runs(alloc, issue, runs.as_slice())?;

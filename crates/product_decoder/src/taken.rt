@@ -7,12 +7,12 @@ ghost use Rattle.event_life.specs.Products.{event_of, end_of, line_of, lines_of}
 ghost use Rattle.product_decoder.specs.ReaderModel.{is_vtec_by, is_by, line_said, said_by, product_of};
 ghost use Rattle.product_decoder.specs.Runs.{in_breach};
 ghost use Rattle.product_decoder.specs.Takings.{IsKnown, same_named, line_of_event, rows_taken};
-ghost use Rattle.row_index.specs.Verdicts.{has_breach, spelled, AreApart, AreFound};
+ghost use Rattle.row_index.specs.Verdicts.{has_breach, expand, AreApart, AreFound};
 
 use crate::types::{Decoded, ZonePair};
 use event_life::Breach;
 use hazard_types::{Class, End, Event, Line, List, Minute, Oom, Vtec};
-use row_index::{RowIndex, Run, spelled};
+use row_index::{RowIndex, Run, expand};
 use std::alloc::Global;
 use std::marker::Model;
 
@@ -26,11 +26,11 @@ pub struct Taken {
 
 impl Model for Taken {
     ghost use Rattle.product_decoder.specs.Runs.{Taken as TakenValue};
-    ghost use Rattle.row_index.specs.Verdicts.{spelled, AreApart};
+    ghost use Rattle.row_index.specs.Verdicts.{expand, AreApart};
 
     ghost Value = { TakenValue };
 
-    ghost view = { λ x. record { issue = x.issue; judged = spelled x.runs } };
+    ghost view = { λ x. record { issue = x.issue; judged = expand x.runs } };
 
     ghost invariant = { λ x. AreApart x.runs };
 }
@@ -47,7 +47,7 @@ impl Taken {
     pub fn new(issue: Minute, runs: List<Run>) -> Self
         requires { AreApart runs }
         ensures issue { result.issue ≡ issue }
-        ensures judged { result.judged ≡ spelled runs }
+        ensures judged { result.judged ≡ expand runs }
     {
         Taken { issue, runs }
     }
@@ -62,7 +62,7 @@ impl Taken {
     /// Returns the lines of the office and class as runs. No two lines of a run have the same
     /// event.
     pub fn runs(&self) -> &[Run]
-        ensures judged { spelled result.now ≡ self.now.judged }
+        ensures judged { expand result.now ≡ self.now.judged }
         ensures apart { AreApart result.now }
     {
         self.runs.as_slice()
@@ -80,7 +80,7 @@ impl Taken {
     pub fn judged(&self, alloc: Global) -> Result<List<(Line, Option<Breach>)>, Oom>
         ensures { IfOk result (λ judged. judged ≡ self.now.judged) }
     {
-        spelled(alloc, self.runs.as_slice())
+        expand(alloc, self.runs.as_slice())
     }
 }
 
@@ -209,7 +209,7 @@ pub fn judged_lines(
     d: &Decoded,
 ) -> Result<List<Run>, Oom>
     ensures told { IfOk result
-        (λ runs. spelled runs ≡ judged_product rows.now (product_of office.now class.now d.now)) }
+        (λ runs. expand runs ≡ judged_product rows.now (product_of office.now class.now d.now)) }
     ensures found { IfOk result (λ runs. AreFound rows.now runs) }
     ensures apart { IfOk result (λ runs. AreApart runs) }
 {

@@ -8,7 +8,7 @@ ghost use Rattle.product_decoder.specs.Lives.{living_in, by_life};
 ghost use Rattle.product_decoder.specs.Steps.{with_lines, with_product, steps_of_all, tracks_told};
 ghost use Rattle.product_decoder.specs.Takings.{track_in, rows_taken};
 ghost use Rattle.product_decoder.specs.ZoneSteps.{AreAscending, zones_at, with_zones, with_verdict, flat};
-ghost use Rattle.row_index.specs.Verdicts.{spelled_run, HaveOwnEvents};
+ghost use Rattle.row_index.specs.Verdicts.{expand_run, HaveOwnEvents};
 
 use crate::taken::Taken;
 use crate::types::Track;
@@ -55,7 +55,7 @@ fn put_verdict(
         ≡ with_verdict issue.now zones.now (flat steps.old.entries) verdict.now) }
     ensures ascending { OnOk result (AreAscending steps.new.entries) }
 {
-    if !verdict.is_lawful() {
+    if !verdict.leaves_row() {
         return Ok(());
     }
     put_line(alloc, steps, issue, &verdict.line, zones)
@@ -66,7 +66,7 @@ fn add_run(alloc: Global, steps: &mut Steps, issue: &Minute, run: &Run) -> Resul
     requires apart { HaveOwnEvents (map (λ v. v.line) run.now.verdicts) }
     requires ascending { AreAscending steps.old.entries }
     ensures put { OnOk result (flat steps.new.entries
-        ≡ with_lines issue.now (flat steps.old.entries) (spelled_run run.now)) }
+        ≡ with_lines issue.now (flat steps.old.entries) (expand_run run.now)) }
     ensures ascending { OnOk result (AreAscending steps.new.entries) }
 {
     let zones = run.zones.as_slice();

@@ -8,7 +8,7 @@ use Rattle.product_frame.specs.Text.{starts, starts_from}
 use Rattle.product_frame.specs.Parts.{heading_of, is_identifier}
 use Rattle.product_frame.specs.Nearness.{is_near}
 use Rattle.product_frame.proofs.Nearness.{near_decides}
-use Rattle.product_frame.specs.Frames.{line_at, heading_index, full_index, issue_in, product_in, or_fault, behind, named, frame_in, frame_from, frame_of}
+use Rattle.product_frame.specs.Frames.{line_at, heading_index, full_index, issue_in, product_in, or_fault, frame_after_identifier, named, frame_in, frame_from, frame_of}
 use Rattle.product_frame.specs.Walking.{begun, segments_of}
 use Rattle.product_frame.specs.Frame.{FrameOf}
 use Rattle.product_frame.specs.Faults.{IsIdentified, HasBadSegment, IsFaultIn, HasFaultyProduct, FrameFaultOf}
@@ -37,7 +37,7 @@ lines_behind : List ℕ → ℕ → List ℕ
 lines_behind p k = drop (k + 1) (starts_from 0 p)
 
 segment_refused : (p : List ℕ) (h : Heading) (x : FrameFault) → HasBadSegment p h x → frame_in p h ≡ Err x
-unfolding frame_in behind
+unfolding frame_in frame_after_identifier
 segment_refused p h x b =
     let near : is_near b.1 h.day ≡ true = (near_decides b.1 h.day).1 b.3 in
     let walked : segments_of p (b.0 + 3) (drop (b.0 + 1) (starts_from 0 p)) ≡ Err x = fault_walked p (drop (b.0 + 1) (starts_from 0 p)) (b.0 + 3 + length (drop (b.0 + 1) (starts_from 0 p))) x b.4 [] [] begun.expiry [] 0 (b.0 + 3) refl in
@@ -47,7 +47,7 @@ segment_refused p h x b =
     rw (full, named, minute, near, walked) refl
 
 product_refused : (p : List ℕ) (h : Heading) (x : FrameFault) → IsFaultIn p h x → frame_in p h ≡ Err x
-unfolding frame_in behind
+unfolding frame_in frame_after_identifier
 product_refused p h NoHeading f = absurd f
 product_refused p h NoIdentifier (inl none) = rw none refl
 product_refused p h NoIdentifier (inr f) = rw (f.1, f.2) refl
@@ -107,8 +107,8 @@ of_segment p h (BadUgc n) b = b
 of_segment p h (BadVtec n) b = b
 of_segment p h (NoSegmentEnd n) b = b
 
-behind_faulty : (p : List ℕ) (h : Heading) (t : List ℕ) (k : ℕ) (x : FrameFault) → IsIdentified p k → behind p h t k ≡ Err x → IsFaultIn p h x
-unfolding behind
+behind_faulty : (p : List ℕ) (h : Heading) (t : List ℕ) (k : ℕ) (x : FrameFault) → IsIdentified p k → frame_after_identifier p h t k ≡ Err x → IsFaultIn p h x
+unfolding frame_after_identifier
 behind_faulty p h t k x i e =
     let later = drop (k + 1) (starts_from 0 p) in
     elim (or_fault_err (issue_in p later) NoIssueTime (λ issue. cond (is_near issue h.day) (segments_of p (k + 3) later >>= λ segments. Ok (frame_by h t issue segments)) (Err IssueDisagrees)) x e) [

@@ -7,7 +7,7 @@ use Rattle.product_frame.specs.Text.{starts, starts_from, line_of}
 use Rattle.product_frame.specs.Parts.{heading_of, is_identifier}
 use Rattle.product_frame.specs.Nearness.{is_near}
 use Rattle.product_frame.proofs.Nearness.{near_decides}
-use Rattle.product_frame.specs.Frames.{line_at, heading_index, full_index, issue_in, product_in, or_fault, behind, named, frame_in, frame_from, frame_of}
+use Rattle.product_frame.specs.Frames.{line_at, heading_index, full_index, issue_in, product_in, or_fault, frame_after_identifier, named, frame_in, frame_from, frame_of}
 use Rattle.product_frame.specs.Walking.{begun, segments_of}
 use Rattle.product_frame.specs.Frame.{IsFrameIn, FrameOf}
 use Rattle.product_frame.specs.declared.frame.Heading.{Heading}
@@ -19,7 +19,7 @@ use Rattle.product_frame.proofs.Segments.{segments_walked}
 use Rattle.product_frame.proofs.Found.{walked_segments}
 
 pub frame_read : (bytes : List ℕ) (f : Frame) → FrameOf bytes f → frame_of bytes ≡ Ok f
-unfolding frame_of frame_from frame_in behind
+unfolding frame_of frame_from frame_in frame_after_identifier
 frame_read bytes f is =
     let p = product_in (drop (slice_index (starts bytes) is.index) bytes) in
     let i = is.frame in
@@ -45,9 +45,9 @@ never f out e = cc e
 abbrev pub frame_by : Heading → List ℕ → ℕ → List FrameSegment → Frame
 frame_by h t m gs = record { heading = h; identifier = t; issue = m; segments = gs }
 
-behind_is : (p : List ℕ) (h : Heading) (t : List ℕ) (k : ℕ) (f : Frame) → behind p h t k ≡ Ok f →
+behind_is : (p : List ℕ) (h : Heading) (t : List ℕ) (k : ℕ) (f : Frame) → frame_after_identifier p h t k ≡ Ok f →
     (issue : ℕ) × (segments : List FrameSegment) × (issue_in p (drop (k + 1) (starts_from 0 p)) ≡ Some issue) × (is_near issue h.day ≡ true) × (segments_of p (k + 3) (drop (k + 1) (starts_from 0 p)) ≡ Ok segments) × (frame_by h t issue segments ≡ f)
-unfolding behind
+unfolding frame_after_identifier
 behind_is p h t k f e =
     let later = drop (k + 1) (starts_from 0 p) in
     let rest = λ (issue : ℕ). cond (is_near issue h.day) (segments_of p (k + 3) (drop (k + 1) (starts_from 0 p)) >>= λ segments. Ok (frame_by h t issue segments)) (Err IssueDisagrees) in

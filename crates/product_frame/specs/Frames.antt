@@ -47,13 +47,13 @@ or_fault None fault f = Err fault
 or_fault (Some x) fault f = f x
 
 -- behind the identifier, which is the line of this index behind the heading
-unfoldable pub behind : List ℕ → Heading → List ℕ → ℕ → Result Frame FrameFault
-behind p h identifier k = or_fault (issue_in p (drop (k + 1) (starts_from 0 p))) NoIssueTime (λ issue.
+unfoldable pub frame_after_identifier : List ℕ → Heading → List ℕ → ℕ → Result Frame FrameFault
+frame_after_identifier p h identifier k = or_fault (issue_in p (drop (k + 1) (starts_from 0 p))) NoIssueTime (λ issue.
     if is_near issue h.day then (segments_of p (k + 3) (drop (k + 1) (starts_from 0 p)) >>= λ segments. Ok (record { heading = h; identifier = identifier; issue = issue; segments = segments }))
     else Err IssueDisagrees)
 
 abbrev pub named : List ℕ → Heading → List ℕ → ℕ → Result Frame FrameFault
-named p h identifier k = if is_identifier identifier then behind p h identifier k else Err NoIdentifier
+named p h identifier k = if is_identifier identifier then frame_after_identifier p h identifier k else Err NoIdentifier
 
 -- one product, whose first line is its heading
 unfoldable pub frame_in : List ℕ → Heading → Result Frame FrameFault

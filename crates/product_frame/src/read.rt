@@ -10,7 +10,7 @@ ghost use Rattle.product_frame.specs.Frame.{FrameOf};
 ghost use Rattle.product_frame.specs.declared.frame.Frame.{Frame as FrameValue};
 ghost use Rattle.product_frame.specs.declared.frame.FrameFault.{FrameFault as FaultValue};
 ghost use Rattle.product_frame.specs.Faults.{FrameFaultOf};
-ghost use Rattle.product_frame.specs.Frames.{line_at, heading_index, first_heading, full_index, issue_in, product_in, behind, named, frame_in, frame_from, frame_of};
+ghost use Rattle.product_frame.specs.Frames.{line_at, heading_index, first_heading, full_index, issue_in, product_in, frame_after_identifier, named, frame_in, frame_from, frame_of};
 
 use crate::frame::{Frame, FrameFault, Heading};
 use crate::text::{line_of, next_start};
@@ -228,8 +228,8 @@ fn list_lines(places: &mut Vec<usize>, rest: &[u8]) -> Result<usize, Oom>
 }
 
 /// Returns the frame; the identifier is the line at `places[k]`, and what follows it is read.
-#[tactic(auto, unfolding(crate::specs::Frames::behind))]
-fn behind(
+#[tactic(auto, unfolding(crate::specs::Frames::frame_after_identifier))]
+fn frame_after_identifier(
     alloc: Global,
     product: &[u8],
     heading: Heading,
@@ -241,7 +241,7 @@ fn behind(
     requires index { k < length places.now }
     requires places { places.now ≡ starts_from 0 product.now }
     requires few { length places.now < 2 ^ 60 }
-    ensures { Gives result (behind product.now heading identifier k) }
+    ensures { Gives result (frame_after_identifier product.now heading identifier k) }
 {
     let later = &places[k + 1..];
     let Some(issue) = issue_in(product, later) else {
@@ -279,7 +279,7 @@ fn frame_in(
         return Err(Or::No(FrameFault::NoIdentifier));
     }
     let identifier = List::from_slice(alloc, line)?;
-    behind(alloc, product, heading, identifier, places, k)
+    frame_after_identifier(alloc, product, heading, identifier, places, k)
 }
 
 /// Returns the frame of the product that starts at the first line of `rest`.

@@ -5,7 +5,7 @@ use Rattle.std.specs.List.{AllByRecursion, list_all}
 use Rattle.std.proofs.lemmas.Bool.{cases_Bool, and_parts, and_from, leb-true, ne_eqb}
 use Rattle.desk_clock.specs.LocalText.{local_short_of, local_line_of, line_of}
 use Rattle.hazard_types.specs.Characters.{is_printable}
-use Rattle.hazard_types.specs.Hazards.{DeskHazard, desk_hazards, beside, name_rows, name_of}
+use Rattle.hazard_types.specs.Hazards.{DeskHazard, desk_hazards, value_of, name_rows, name_of}
 use Rattle.hazard_types.specs.Same.{same_hazard}
 use Rattle.hazard_types.specs.declared.codes.Action.{Action}
 use Rattle.hazard_types.specs.declared.codes.Action.TheVariants.{New, Con, Exa, Ext, Exb, Upg, Can, Exp, Cor, Rou}
@@ -46,7 +46,7 @@ short_line z m = line_from (local_short_of z m) (short_one z m)
 
 -- ---- names of hazards
 
-beside_line : (rows : List DeskHazard) (h : Hazard) → list_all (λ (d : DeskHazard). is_one_line d.name) rows ≡ true → IsLine (unwrap_or (beside (map (λ (d : DeskHazard). (d.hazard, d.name)) rows) h) [])
+beside_line : (rows : List DeskHazard) (h : Hazard) → list_all (λ (d : DeskHazard). is_one_line d.name) rows ≡ true → IsLine (unwrap_or (value_of (map (λ (d : DeskHazard). (d.hazard, d.name)) rows) h) [])
 beside_line [] h k = refl
 beside_line (d ∷ rows) h k =
     let p = and_parts (is_one_line d.name) (list_all (λ (d : DeskHazard). is_one_line d.name) rows) k in

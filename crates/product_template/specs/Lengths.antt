@@ -7,24 +7,24 @@ use Rattle.hazard_types.specs.declared.line.Segment.{Segment}
 use Rattle.office_types.specs.declared.request.EventTexts.{EventTexts}
 use Rattle.office_types.specs.declared.request.Texts.{Texts}
 use Rattle.product_template.specs.Bodies.{front_text, back_text}
-use Rattle.product_template.specs.declared.lengths.Told.{Told}
+use Rattle.product_template.specs.declared.lengths.TextLength.{TextLength}
 
 -- the bullets of texts
 unfoldable pub texts_length : Texts → ℕ
 texts_length texts = length (front_text texts ++ back_text texts)
 
-abbrev pub told_of : EventTexts → Told
+abbrev pub told_of : EventTexts → TextLength
 told_of x = record { event = x.event; bytes = texts_length x.texts }
 
 -- the first texts on an event
-abbrev pub told_on : List Told → Event → ℕ
+abbrev pub told_on : List TextLength → Event → ℕ
 told_on [] e = 0
 told_on (x ∷ told) e = if same_event x.event e then x.bytes else told_on told e
 
-abbrev pub told_in_lines : List Told → List SegLine → ℕ
+abbrev pub told_in_lines : List TextLength → List SegLine → ℕ
 told_in_lines told [] = 0
 told_in_lines told (l ∷ lines) = told_on told l.event + told_in_lines told lines
 
-abbrev pub told_in_segments : List Told → List Segment → ℕ
+abbrev pub told_in_segments : List TextLength → List Segment → ℕ
 told_in_segments told [] = 0
 told_in_segments told (s ∷ segments) = told_in_lines told s.lines + told_in_segments told segments

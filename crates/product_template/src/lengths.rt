@@ -9,7 +9,7 @@ use std::alloc::Global;
 
 /// How many bytes the bullets of an event's texts have.
 #[derive(Clone, Copy, Debug, PartialEq, Eq)]
-pub struct Told {
+pub struct TextLength {
     pub event: Event,
     pub bytes: usize,
 }
@@ -19,7 +19,7 @@ pub struct Told {
 /// # Errors
 ///
 /// `Oom` if the sum overflows.
-pub fn more(sum: usize, amount: usize) -> Result<usize, Oom>
+pub fn checked_sum(sum: usize, amount: usize) -> Result<usize, Oom>
     ensures { IfOk result (λ n. n ≡ sum + amount) }
 {
     match sum.checked_add(amount) {
@@ -40,11 +40,11 @@ fn texts_length(alloc: Global, texts: &Texts) -> Result<usize, Oom>
 }
 
 /// Returns the event of `entry` and the length of the bullets of its texts.
-fn told_of(alloc: Global, entry: &EventTexts) -> Result<Told, Oom>
+fn told_of(alloc: Global, entry: &EventTexts) -> Result<TextLength, Oom>
     ensures { IfOk result (λ told. told ≡ told_of entry.now) }
 {
     let bytes = texts_length(alloc, &entry.texts)?;
-    Ok(Told {
+    Ok(TextLength {
         event: entry.event,
         bytes,
     })
@@ -55,7 +55,7 @@ fn told_of(alloc: Global, entry: &EventTexts) -> Result<Told, Oom>
 /// # Errors
 ///
 /// Out of memory.
-pub fn each_told(alloc: Global, texts: &[EventTexts]) -> Result<List<Told>, Oom>
+pub fn each_told(alloc: Global, texts: &[EventTexts]) -> Result<List<TextLength>, Oom>
     ensures { IfOk result (λ told. told ≡ map told_of texts.now) }
 {
     let mut told = List::new(alloc);
@@ -66,7 +66,7 @@ pub fn each_told(alloc: Global, texts: &[EventTexts]) -> Result<List<Told>, Oom>
 }
 
 /// Returns the length of the bullets of the first texts on an event; 0 if it has none.
-fn told_on(told: &[Told], event: &Event) -> usize
+fn told_on(told: &[TextLength], event: &Event) -> usize
     ensures { result ≡ told_on told.now event.now }
 {
     for entry in told {
@@ -77,12 +77,12 @@ fn told_on(told: &[Told], event: &Event) -> usize
     0
 }
 
-fn told_in_lines(told: &[Told], lines: &[SegLine]) -> Result<usize, Oom>
+fn told_in_lines(told: &[TextLength], lines: &[SegLine]) -> Result<usize, Oom>
     ensures { IfOk result (λ n. n ≡ told_in_lines told.now lines.now) }
 {
     let mut sum = 0;
     for line in lines {
-        sum = more(sum, told_on(told, &line.event))?;
+        sum = checked_sum(sum, told_on(told, &line.event))?;
     }
     Ok(sum)
 }
@@ -92,12 +92,12 @@ fn told_in_lines(told: &[Told], lines: &[SegLine]) -> Result<usize, Oom>
 /// # Errors
 ///
 /// `Oom` if the sum overflows.
-pub fn told_in_segments(told: &[Told], segments: &[Segment]) -> Result<usize, Oom>
+pub fn told_in_segments(told: &[TextLength], segments: &[Segment]) -> Result<usize, Oom>
     ensures { IfOk result (λ n. n ≡ told_in_segments told.now segments.now) }
 {
     let mut sum = 0;
     for segment in segments {
-        sum = more(sum, told_in_lines(told, segment.lines.as_slice())?)?;
+        sum = checked_sum(sum, told_in_lines(told, segment.lines.as_slice())?)?;
     }
     Ok(sum)
 }

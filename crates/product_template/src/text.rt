@@ -11,7 +11,7 @@ ghost use Rattle.product_template.specs.Text.{frame_of, text_of, text_with};
 
 use crate::bodies::bodies_of;
 use crate::frame::{block_of, frame_of};
-use crate::lengths::{each_told, may_be_long, more, told_in_segments};
+use crate::lengths::{checked_sum, each_told, may_be_long, told_in_segments};
 use desk_settings::Settings;
 use hazard_types::{Class, Minute, Oom, Or, Text};
 use office_types::{Edition, EventTexts, Plan, Refusal};
@@ -68,7 +68,7 @@ fn text_length(
     let told = each_told(alloc, plan.texts.as_slice())?;
     let said = told_in_segments(told.as_slice(), plan.segments.as_slice())?;
     let bare = whole_text(alloc, settings, class, plan, &[], t, edition)?;
-    more(bare.len(), said)
+    checked_sum(bare.len(), said)
 }
 
 /// Returns the text of a plan as a product that is issued at minute `t`: lines that each end with

@@ -22,6 +22,6 @@ pub use lines::{Answers, LIMIT, run_lines};
 pub use numbers::{count_in, number_in};
 pub use offices::office_of;
 pub use pieces::Pieces;
-pub use reading::{Stop, read_front};
+pub use reading::{Stop, read_some};
 pub use reply::Reply;
 pub use words::given_words;

@@ -23,9 +23,9 @@ pub trait Answers {
     /// `state'`. A line over the limit is passed as `None`.
     ghost answers: { Self → Option (List ℕ) → List ℕ → Self → Type 0 };
 
-    /// `lacks state line state'`: what the state may be when memory ran out while the line was
+    /// `out_of_memory state line state'`: what the state may be when memory ran out while the line was
     /// answered.
-    ghost lacks: { Self → Option (List ℕ) → Self → Type 0 };
+    ghost out_of_memory: { Self → Option (List ℕ) → Self → Type 0 };
 
     /// Answers a line, which is without its LF. A line of more than 65,536 bytes is passed as
     /// `None`.
@@ -36,7 +36,7 @@ pub trait Answers {
     fn answer(&mut self, alloc: Global, line: Option<&[u8]>) -> Result<Reply, Oom>
         ensures answered { IfOk result (λ reply. answers self.old
             (option_map (λ bytes. bytes.now) line.entry) (bytes_of reply) self.new) }
-        ensures lacked { OnErr result (lacks self.old
+        ensures lacked { OnErr result (out_of_memory self.old
             (option_map (λ bytes. bytes.now) line.entry) self.new) };
 }
 
@@ -50,7 +50,7 @@ fn reply<K: Sink, A: Answers>(
     ensures told { OnOk result (Replies A.answers answers.old answers.new
         (option_map (λ bytes. bytes.now) line.entry)
         (K.outflow output.old) (K.outflow output.new)) }
-    ensures halted { IfErr result (HaltsAt A.answers A.lacks answers.old answers.new
+    ensures halted { IfErr result (HaltsAt A.answers A.out_of_memory answers.old answers.new
         (option_map (λ bytes. bytes.now) line.entry)
         (K.outflow output.old) (K.outflow output.new)) }
     ensures cause { IsCauseOf Stop.Write
@@ -75,7 +75,7 @@ fn feed<K: Sink, A: Answers>(
         → Feeds A.answers answers.old answers.new begun chunk.now line.new
         (K.outflow output.old) (K.outflow output.new)) }
     ensures halted { IfErr result (λ why. (begun : List ℕ) → line.old ≡ pending_of begun
-        → Halts A.answers A.lacks answers.old answers.new (lines_from begun chunk.now)
+        → Halts A.answers A.out_of_memory answers.old answers.new (lines_from begun chunk.now)
         (K.outflow output.old) (K.outflow output.new) why) }
     ensures cause { IsCauseOf Stop.Write
         (K.outflow output.old).faults (K.outflow output.new).faults result }
@@ -103,7 +103,7 @@ fn answer_lines<S: Source, K: Sink, A: Answers>(
     output: &mut K,
 ) -> Result<(), Stop>
     requires { limit + 1 < 2 ^ 64 }
-    ensures run { Runs A.answers A.lacks limit answers.old answers.new
+    ensures run { Runs A.answers A.out_of_memory limit answers.old answers.new
         (streams (S.inflow input.old) (K.outflow output.old))
         (streams (S.inflow input.new) (K.outflow output.new)) result }
     ensures read { IsCauseOf Stop.Read
@@ -134,7 +134,7 @@ pub fn run_lines<S: Source, K: Sink, A: Answers>(
     output: &mut K,
 ) -> u8
     requires { limit + 1 < 2 ^ 64 }
-    ensures { IsLinesRun A.answers A.lacks limit answers.old answers.new
+    ensures { IsLinesRun A.answers A.out_of_memory limit answers.old answers.new
         (streams (S.inflow input.old) (K.outflow output.old))
         (streams (S.inflow input.new) (K.outflow output.new)) result }
 {

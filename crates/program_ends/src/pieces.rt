@@ -2,7 +2,7 @@
 ghost use Rattle.std.specs.Prelude.{◌≡◌, ◌<◌, ◌+◌, ◌^◌, length};
 ghost use Rattle.program_ends.specs.Pieces.{ReadsNext, extent};
 
-use crate::reading::{Stop, read_front};
+use crate::reading::{Stop, read_some};
 use byte_streams::Source;
 use desk_traits::Failed;
 use std::marker::Model;
@@ -56,7 +56,7 @@ impl Pieces {
         }
         let within = self.limit - self.total;
         let room = buffer.len().min(within + 1);
-        let count = match read_front(input, buffer, room) {
+        let count = match read_some(input, buffer, room) {
             Ok(count) => count,
             Err(Failed) => return Err(Stop::Read),
         };

@@ -48,7 +48,7 @@ impl From<Stop> for End {
 /// # Errors
 ///
 /// `Failed` if the read failed; nothing was read.
-pub fn read_front<S: Source>(input: &mut S, buffer: &mut [u8], room: usize) -> Result<usize, Failed>
+pub fn read_some<S: Source>(input: &mut S, buffer: &mut [u8], room: usize) -> Result<usize, Failed>
     requires { room ≤ length buffer.old }
     ensures { ReadsFront (S.inflow input.old) (S.inflow input.new) room result buffer.new }
 {

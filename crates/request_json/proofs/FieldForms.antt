@@ -15,7 +15,7 @@ use Rattle.serde_json.specs.Data.{Data, null, boolean, number, string, array, ob
 use Rattle.serde_json.specs.Find.{get, get_member, as_str, as_number, as_u64, as_object}
 use Rattle.hazard_types.specs.Calendar.{stamp_at, is_digit}
 use Rattle.hazard_types.specs.Characters.{location_at, is_location}
-use Rattle.hazard_types.specs.Codes.{value_beside, unfilled}
+use Rattle.hazard_types.specs.Codes.{value_beside, without_padding}
 use Rattle.office_types.specs.Desks.{is_desk_name}
 use Rattle.hazard_types.specs.Names.{zone_at, hazard_at, sig_at, four_of, event_if, event_at, number_at as four_at}
 use Rattle.hazard_types.specs.Places.{Place, IsPlace, is_capital}
@@ -171,7 +171,7 @@ site_form d site h =
 
 -- rows whose code is their value
 abbrev NameThemselves : List (Coded (List ℕ)) → Type 0
-NameThemselves rows = AllByRecursion (λ (r : Coded (List ℕ)). unfilled r.code ≡ r.value) rows
+NameThemselves rows = AllByRecursion (λ (r : Coded (List ℕ)). without_padding r.code ≡ r.value) rows
 
 row_by : (t : Bool) (code value text found : List ℕ) (rest : Option (List ℕ)) → bytes_eq code text ≡ t → code ≡ value → (rest ≡ Some found → text ≡ found) → cond t (Some value) rest ≡ Some found → text ≡ found
 row_by true code value text found rest e same later h = sym ((bytes_eq-Decides code text).0 e) ∙ same ∙ same_Some value found h
@@ -179,7 +179,7 @@ row_by false code value text found rest e same later h = later h
 
 row_found : (rows : List (Coded (List ℕ))) (text found : List ℕ) → NameThemselves rows → value_beside rows text ≡ Some found → text ≡ found
 row_found [] text found all h = absurd (cc)
-row_found (r ∷ rows) text found all h = row_by (bytes_eq (unfilled r.code) text) (unfilled r.code) r.value text found (value_beside rows text) refl all.0 (row_found rows text found all.1) h
+row_found (r ∷ rows) text found all h = row_by (bytes_eq (without_padding r.code) text) (without_padding r.code) r.value text found (value_beside rows text) refl all.0 (row_found rows text found all.1) h
 
 causes_name_themselves : NameThemselves cause_rows
 unfolding cause_rows

@@ -17,7 +17,7 @@ use Rattle.event_life.specs.Products.{life_at, life_of, row_at}
 use Rattle.row_index.specs.Holding.{AreRowsOf}
 use Rattle.row_index.specs.Pending.{further, run_of, same_verdict, with_last, IsJoined, IsWith}
 use Rattle.row_index.specs.Runs.{in_zone, same_life}
-use Rattle.row_index.specs.Verdicts.{spelled, spelled_at, spelled_run, AreApart, AreFound, HaveOwnEvents, IsFound, IsFoundAt, Judged}
+use Rattle.row_index.specs.Verdicts.{expand, expand_at, expand_run, AreApart, AreFound, HaveOwnEvents, IsFound, IsFoundAt, Judged}
 use Rattle.row_index.specs.declared.collecting.Alone.{Alone}
 use Rattle.row_index.specs.declared.verdicts.Run.{Run}
 use Rattle.row_index.specs.declared.verdicts.Verdict.{Verdict}
@@ -60,24 +60,24 @@ all_front : {X : Type 0} (P : X → Type 0) (xs : List X) (x : X) → AllByRecur
 all_front P [] x all = (tt, all.0)
 all_front P (y ∷ xs) x all = let rest = all_front P xs x all.1 in ((all.0, rest.0), rest.1)
 
-spelled_more : (runs : List Run) (r : Run) → spelled (runs ++ r ∷ []) ≡ spelled runs ++ spelled_run r
-spelled_more runs r = flat_map-append (λ (r : Run). spelled_run r) runs (r ∷ []) ∙ ap (λ (rest : List Judged). spelled runs ++ rest) (append-nil (spelled_run r))
+spelled_more : (runs : List Run) (r : Run) → expand (runs ++ r ∷ []) ≡ expand runs ++ expand_run r
+spelled_more runs r = flat_map-append (λ (r : Run). expand_run r) runs (r ∷ []) ∙ ap (λ (rest : List Judged). expand runs ++ rest) (append-nil (expand_run r))
 
 abbrev Apart : Run → Type 0
 Apart r = HaveOwnEvents (map (λ (v : Verdict). v.line) r.verdicts)
 
 -- a zone more of the last run
 module _ (v : Verdict) (runs : List Run) (a : Alone) (same : IsSame a.verdict v) where
-  told_further : spelled_run (run_of (further a v)) ≡ spelled_run (run_of a) ++ (v.line, v.breach) ∷ []
+  told_further : expand_run (run_of (further a v)) ≡ expand_run (run_of a) ++ (v.line, v.breach) ∷ []
   told_further =
-      flat_map-append (spelled_at (a.verdict ∷ [])) a.zones (v.line.zone ∷ [])
-      ∙ (λ i. spelled_run (run_of a) ++ (same.line i, same.breach i) ∷ [])
+      flat_map-append (expand_at (a.verdict ∷ [])) a.zones (v.line.zone ∷ [])
+      ∙ (λ i. expand_run (run_of a) ++ (same.line i, same.breach i) ∷ [])
 
-  told_with : spelled (runs ++ run_of (further a v) ∷ []) ≡ spelled (runs ++ run_of a ∷ []) ++ (v.line, v.breach) ∷ []
+  told_with : expand (runs ++ run_of (further a v) ∷ []) ≡ expand (runs ++ run_of a ∷ []) ++ (v.line, v.breach) ∷ []
   told_with =
       spelled_more runs (run_of (further a v))
-      ∙ ap (λ (rest : List Judged). spelled runs ++ rest) told_further
-      ∙ sym (append_assoc (spelled runs) (spelled_run (run_of a)) ((v.line, v.breach) ∷ []))
+      ∙ ap (λ (rest : List Judged). expand runs ++ rest) told_further
+      ∙ sym (append_assoc (expand runs) (expand_run (run_of a)) ((v.line, v.breach) ∷ []))
       ∙ ap (λ (front : List Judged). front ++ (v.line, v.breach) ∷ []) (sym (spelled_more runs (run_of a)))
 
   found_with : (rows : List Row) → life_at rows v.line ≡ v.found → AreFound rows (runs ++ run_of a ∷ []) → AreFound rows (runs ++ run_of (further a v) ∷ [])

@@ -21,7 +21,7 @@ use Rattle.hazard_types.specs.declared.period.Period.{Period}
 use Rattle.hazard_types.specs.contracts.period.EndOrd.TheImpl as end_order
 use Rattle.hazard_types.proofs.Equality.{period_one}
 use Rattle.hazard_types.proofs.OrderLaws.{by_end_total, by_end_ties, numbers_tied}
-use Rattle.event_life.specs.Periods.{ends_after, ends_within, same_end, same_at, is_live, keeps_open}
+use Rattle.event_life.specs.Periods.{ends_after, is_not_long_past, same_end, same_at, is_live, keeps_open}
 use Rattle.event_life.proofs.Keys.{then_parts}
 use Rattle.event_life.proofs.Members.{IsIn, any_in, in_any, one_way}
 use Rattle.event_life.specs.declared.life.Life.{Life}
@@ -31,7 +31,7 @@ use Rattle.row_index.specs.contracts.standing.StandingOrd.TheImpl.Laws as standi
 use Rattle.row_index.specs.Numbers.{stands}
 use Rattle.row_index.specs.Standings.{by_standing, period_at, standing_of, life_standing, lies, lies_from, open_from, first_same, last_same, same_from, same_to, count_at, with_count, less_by, some_less, all_less, some_more, all_stay, restood, stands_so, stands_with, AreCounts}
 use Rattle.row_index.specs.Tallies.{tally, one, one_of, times, owed, AreTallied}
-use Rattle.row_index.specs.Steps.{stays}
+use Rattle.row_index.specs.Steps.{has_same_period}
 use Rattle.row_index.specs.Telling.{Tells}
 use Rattle.row_index.proofs.Lists.{ascending-put}
 use Rattle.row_index.proofs.Tallied.{times-nought, times-one}
@@ -246,7 +246,7 @@ all_less_count (b ∷ bs) k x es kept h =
 
 -- zones come to a life
 
-stays_alike : (k : Standing) (before : Option Life) (life : Life) → stays before life ≡ true → one_of (stands_so k) before ≡ one (stands_so k life)
+stays_alike : (k : Standing) (before : Option Life) (life : Life) → has_same_period before life ≡ true → one_of (stands_so k) before ≡ one (stands_so k life)
 stays_alike k None life h = cc
 stays_alike k (Some old) life h =
     let p = and_parts (period_eq.eq-value.it old.period life.period && not old.ended) _ h in
@@ -258,7 +258,7 @@ stays_alike k (Some old) life h =
 all_alike : (k : Standing) (befores : List Before) (n : ℕ) (life : Life) → all_stay befores n life ≡ true → owed (stands_so k) befores ≡ times n (one (stands_so k life))
 all_alike k [] n life h = cc
 all_alike k (b ∷ []) n life h =
-    let p = and_parts (b.zones == n) (stays b.life life) h in
+    let p = and_parts (b.zones == n) (has_same_period b.life life) h in
     let count : b.zones ≡ n = numbers_one b.zones n p.0 in
     let own = stays_alike k b.life life p.1 in
     nothing_more (times b.zones (one_of (stands_so k) b.life)) ∙ (λ i. times (count i) (own i))
@@ -374,14 +374,14 @@ zero_first b = le_is 0 b ∙ first
     first : nat_le 0 b ≡ true
     first = grind (arith, nat_tests)
 
-open_end : (t : ℕ) (a : End) → is_le (end_cmp (end.At (t - 30)) a) ≡ ends_within a t
+open_end : (t : ℕ) (a : End) → is_le (end_cmp (end.At (t - 30)) a) ≡ is_not_long_past a t
 open_end t (end.At m) = le_is (t - 30) m ∙ early
   where
     early : nat_le (t - 30) m ≡ nat_le t (m + 30)
     early = grind (arith, nat_tests)
 open_end t end.Ufn = refl
 
-open_lies : (t : ℕ) (r : Row) → lies_from (open_from t) (standing_of r) ≡ ends_within r.period.end t
+open_lies : (t : ℕ) (r : Row) → lies_from (open_from t) (standing_of r) ≡ is_not_long_past r.period.end t
 open_lies t r =
     let o : Ordering = end_cmp (end.At (t - 30)) r.period.end in
     let x : Ordering = nat_cmp 0 r.period.begin in

@@ -15,7 +15,7 @@ use Rattle.row_index.specs.Groups.{AreJudged, AreServed, IsJudged, IsJudgedAt, S
 use Rattle.row_index.specs.Runs.{in_zone}
 use Rattle.row_index.specs.Seating.{upgrades}
 use Rattle.row_index.specs.Steps.{AreHigher, AreOver, IsChanged}
-use Rattle.row_index.specs.Verdicts.{first_judged, lines_in, said_along, said_at, said_in, spelled, spelled_at, spelled_run, AreApart, AreFound, HaveOwnEvents, IsFound, IsFoundAt}
+use Rattle.row_index.specs.Verdicts.{first_judged, lines_in, said_along, said_at, said_in, expand, expand_at, expand_run, AreApart, AreFound, HaveOwnEvents, IsFound, IsFoundAt}
 use Rattle.row_index.specs.declared.higher.Changed.{Changed}
 use Rattle.row_index.specs.declared.verdicts.Part.{Part}
 use Rattle.row_index.specs.declared.verdicts.Run.{Run}
@@ -24,21 +24,21 @@ use Rattle.row_index.proofs.Every.{every_both, every_flat, every_map, every_same
 
 -- what lines say in zones, with what they find there
 
-told_at : (rows : List Row) (t : ℕ) (all : List Line) (z : Place) (verdicts : List Verdict) → AllByRecursion (IsJudgedAt rows t all z) verdicts → spelled_at verdicts z ≡ map (first_judged rows t all) (said_at (lines_of verdicts) z)
+told_at : (rows : List Row) (t : ℕ) (all : List Line) (z : Place) (verdicts : List Verdict) → AllByRecursion (IsJudgedAt rows t all z) verdicts → expand_at verdicts z ≡ map (first_judged rows t all) (said_at (lines_of verdicts) z)
 told_at rows t all z [] each = refl
 told_at rows t all z (v ∷ verdicts) each = λ i. (in_zone v.line z, each.0.1 i) ∷ told_at rows t all z verdicts each.1 i
 
 told_along : (rows : List Row) (t : ℕ) (all : List Line) (verdicts : List Verdict) (zones : List Place) → AllByRecursion (λ (z : Place). AllByRecursion (IsJudgedAt rows t all z) verdicts) zones
-    → flat_map (spelled_at verdicts) zones ≡ map (first_judged rows t all) (said_along (lines_of verdicts) zones)
+    → flat_map (expand_at verdicts) zones ≡ map (first_judged rows t all) (said_along (lines_of verdicts) zones)
 told_along rows t all verdicts [] each = refl
 told_along rows t all verdicts (z ∷ zones) each =
     (λ i. told_at rows t all z verdicts each.0 i ++ told_along rows t all verdicts zones each.1 i)
     ∙ sym (map-append (first_judged rows t all) (said_at (lines_of verdicts) z) (said_along (lines_of verdicts) zones))
 
-told_run : (rows : List Row) (t : ℕ) (all lines : List Line) (r : Run) → IsJudged rows t all lines r → spelled_run r ≡ map (first_judged rows t all) (said_along lines r.zones)
+told_run : (rows : List Row) (t : ℕ) (all lines : List Line) (r : Run) → IsJudged rows t all lines r → expand_run r ≡ map (first_judged rows t all) (said_along lines r.zones)
 told_run rows t all lines r judged = told_along rows t all r.verdicts r.zones judged.each ∙ ap (λ (ls : List Line). map (first_judged rows t all) (said_along ls r.zones)) judged.said
 
-told_runs : (rows : List Row) (t : ℕ) (all lines : List Line) (runs : List Run) → AreJudged rows t all lines runs → spelled runs ≡ map (first_judged rows t all) (said_along lines (zones_of runs))
+told_runs : (rows : List Row) (t : ℕ) (all lines : List Line) (runs : List Run) → AreJudged rows t all lines runs → expand runs ≡ map (first_judged rows t all) (said_along lines (zones_of runs))
 told_runs rows t all lines [] judged = refl
 told_runs rows t all lines (r ∷ runs) judged =
     (λ i. told_run rows t all lines r judged.0 i ++ told_runs rows t all lines runs judged.1 i)
@@ -47,7 +47,7 @@ told_runs rows t all lines (r ∷ runs) judged =
 
 -- runs tell what is found of lines, and are apart
 pub record AreTold (rows : List Row) (t : ℕ) (all said : List Line) (runs : List Run) : Type 0 where
-  pub told : spelled runs ≡ map (first_judged rows t all) said
+  pub told : expand runs ≡ map (first_judged rows t all) said
   pub found : AreFound rows runs
   pub apart : AreApart runs
 
@@ -56,7 +56,7 @@ told_none rows t all = record { told = refl; found = tt; apart = tt }
 
 told_both : (rows : List Row) (t : ℕ) (all said more : List Line) (runs next : List Run) → AreTold rows t all said runs → AreTold rows t all more next → AreTold rows t all (said ++ more) (runs ++ next)
 told_both rows t all said more runs next one two = record {
-  told = flat_map-append spelled_run runs next ∙ (λ i. one.told i ++ two.told i) ∙ sym (map-append (first_judged rows t all) said more);
+  told = flat_map-append expand_run runs next ∙ (λ i. one.told i ++ two.told i) ∙ sym (map-append (first_judged rows t all) said more);
   found = every_both runs next (IsFound rows) one.found two.found;
   apart = every_both runs next (λ (r : Run). HaveOwnEvents (map (λ (v : Verdict). v.line) r.verdicts)) one.apart two.apart;
 }

@@ -20,7 +20,7 @@ use Rattle.row_index.specs.LineRows.{rows_of_line, rows_of_run, rows_of_runs}
 use Rattle.row_index.specs.Runs.{in_zone, rows_along}
 use Rattle.row_index.specs.Sharing.{row_with}
 use Rattle.row_index.specs.Steps.{put_each}
-use Rattle.row_index.specs.Verdicts.{is_lawful, left_by, spelled, spelled_at, spelled_run, AreApart, AreFound, HaveOwnEvents, IsFound, IsFoundAt}
+use Rattle.row_index.specs.Verdicts.{leaves_row, left_by, expand, expand_at, expand_run, AreApart, AreFound, HaveOwnEvents, IsFound, IsFoundAt}
 use Rattle.row_index.specs.declared.verdicts.Run.{Run}
 use Rattle.row_index.specs.declared.verdicts.Verdict.{Verdict}
 use Rattle.row_index.proofs.Runs.{after_alike, along_own, put_both}
@@ -72,7 +72,7 @@ each_turned e (a ∷ own) rows after up of_one apart =
 -- the rows that lawful lines leave in a zone
 abbrev rows_in : ℕ → List Verdict → Place → List Row
 rows_in t [] z = []
-rows_in t (v ∷ verdicts) z = cond (is_lawful v) (row_with v.line.event z (left_by t v) ∷ rows_in t verdicts z) (rows_in t verdicts z)
+rows_in t (v ∷ verdicts) z = cond (leaves_row v) (row_with v.line.event z (left_by t v) ∷ rows_in t verdicts z) (rows_in t verdicts z)
 
 -- they are what the lines leave that found these lives
 row_left : (rows : List Row) (t : ℕ) (z : Place) (v : Verdict) → IsFoundAt rows z v → row_after rows t (in_zone v.line z) ≡ row_with v.line.event z (left_by t v)
@@ -80,12 +80,12 @@ row_left rows t z v found =
     ap (λ (o : Option Life). row_of (in_zone v.line z) (life_after o (in_zone v.line z) t)) found
     ∙ ap (λ (l : Life). row_with v.line.event z l) (sym (after_alike v.found v.line z t))
 
-zone_left : (rows : List Row) (t : ℕ) (z : Place) (verdicts : List Verdict) (after : List Row) → AllByRecursion (IsFoundAt rows z) verdicts → put_all rows t (lawful_of (spelled_at verdicts z)) after ≡ put_each (rows_in t verdicts z) after
+zone_left : (rows : List Row) (t : ℕ) (z : Place) (verdicts : List Verdict) (after : List Row) → AllByRecursion (IsFoundAt rows z) verdicts → put_all rows t (lawful_of (expand_at verdicts z)) after ≡ put_each (rows_in t verdicts z) after
 zone_left rows t z [] after found = refl
-zone_left rows t z (v ∷ verdicts) after found = by_lawful (λ (known : List Row). zone_left rows t z verdicts known found.1) (is_lawful v)
+zone_left rows t z (v ∷ verdicts) after found = by_lawful (λ (known : List Row). zone_left rows t z verdicts known found.1) (leaves_row v)
   where
-    by_lawful : ((known : List Row) → put_all rows t (lawful_of (spelled_at verdicts z)) known ≡ put_each (rows_in t verdicts z) known)
-        → (b : Bool) → put_all rows t (cond b (in_zone v.line z ∷ lawful_of (spelled_at verdicts z)) (lawful_of (spelled_at verdicts z))) after ≡ put_each (cond b (row_with v.line.event z (left_by t v) ∷ rows_in t verdicts z) (rows_in t verdicts z)) after
+    by_lawful : ((known : List Row) → put_all rows t (lawful_of (expand_at verdicts z)) known ≡ put_each (rows_in t verdicts z) known)
+        → (b : Bool) → put_all rows t (cond b (in_zone v.line z ∷ lawful_of (expand_at verdicts z)) (lawful_of (expand_at verdicts z))) after ≡ put_each (cond b (row_with v.line.event z (left_by t v) ∷ rows_in t verdicts z) (rows_in t verdicts z)) after
     by_lawful rest true =
         rest (put (row_after rows t (in_zone v.line z)) after)
         ∙ ap (λ (r : Row). put_each (rows_in t verdicts z) (put r after)) (row_left rows t z v found.0)
@@ -93,12 +93,12 @@ zone_left rows t z (v ∷ verdicts) after found = by_lawful (λ (known : List Ro
 
 -- zone by zone
 zones_left : (rows : List Row) (t : ℕ) (verdicts : List Verdict) (zones : List Place) (after : List Row) → AllByRecursion (λ (z : Place). AllByRecursion (IsFoundAt rows z) verdicts) zones
-    → put_all rows t (lawful_of (flat_map (spelled_at verdicts) zones)) after ≡ put_each (flat_map (rows_in t verdicts) zones) after
+    → put_all rows t (lawful_of (flat_map (expand_at verdicts) zones)) after ≡ put_each (flat_map (rows_in t verdicts) zones) after
 zones_left rows t verdicts [] after found = refl
 zones_left rows t verdicts (z ∷ zones) after found =
-    ap (λ (lines : List Line). put_all rows t lines after) (lawful_of-append (spelled_at verdicts z) (flat_map (spelled_at verdicts) zones))
-    ∙ put_all-append rows t (lawful_of (spelled_at verdicts z)) (lawful_of (flat_map (spelled_at verdicts) zones)) after
-    ∙ ap (put_all rows t (lawful_of (flat_map (spelled_at verdicts) zones))) (zone_left rows t z verdicts after found.0)
+    ap (λ (lines : List Line). put_all rows t lines after) (lawful_of-append (expand_at verdicts z) (flat_map (expand_at verdicts) zones))
+    ∙ put_all-append rows t (lawful_of (expand_at verdicts z)) (lawful_of (flat_map (expand_at verdicts) zones)) after
+    ∙ ap (put_all rows t (lawful_of (flat_map (expand_at verdicts) zones))) (zone_left rows t z verdicts after found.0)
     ∙ zones_left rows t verdicts zones (put_each (rows_in t verdicts z) after) found.1
     ∙ sym (put_both (rows_in t verdicts z) (flat_map (rows_in t verdicts) zones) after)
 
@@ -108,7 +108,7 @@ AreOthers e verdicts = AllByRecursion (λ (m : Line). same_event e m.event ≡ f
 
 else_in : (t : ℕ) (e : Event) (verdicts : List Verdict) (z : Place) → AreOthers e verdicts → AreElse e (rows_in t verdicts z)
 else_in t e [] z apart = tt
-else_in t e (v ∷ verdicts) z apart = by_lawful (is_lawful v) (else_in t e verdicts z apart.1)
+else_in t e (v ∷ verdicts) z apart = by_lawful (leaves_row v) (else_in t e verdicts z apart.1)
   where
     by_lawful : (b : Bool) → AreElse e (rows_in t verdicts z) → AreElse e (cond b (row_with v.line.event z (left_by t v) ∷ rows_in t verdicts z) (rows_in t verdicts z))
     by_lawful true rest = (apart.0, rest)
@@ -131,7 +131,7 @@ module _ (t : ℕ) (v : Verdict) (verdicts : List Verdict) (apart : AreOthers v.
 
   line_first : (zones : List Place) (after : List Row) → IsStrictlySortedBy by_key after
       → put_each (flat_map (rows_in t (v ∷ verdicts)) zones) after ≡ put_each (flat_map (rows_in t verdicts) zones) (put_each (rows_of_line t zones v) after)
-  line_first zones after up = by_lawful (is_lawful v)
+  line_first zones after up = by_lawful (leaves_row v)
     where
       by_lawful : (b : Bool) → put_each (flat_map (λ (z : Place). cond b (row_with v.line.event z (left_by t v) ∷ rows_in t verdicts z) (rows_in t verdicts z)) zones) after
           ≡ put_each (flat_map (rows_in t verdicts) zones) (put_each (cond b (rows_along v.line.event (left_by t v) zones) []) after)
@@ -153,15 +153,15 @@ lines_turned t zones (v ∷ verdicts) after up own =
     ∙ sym (put_both first (flat_map (rows_of_line t zones) verdicts) after)
 
 run_left : (rows : List Row) (t : ℕ) (r : Run) (after : List Row) → IsStrictlySortedBy by_key after → IsFound rows r → HaveOwnEvents (map (λ (v : Verdict). v.line) r.verdicts)
-    → put_all rows t (lawful_of (spelled_run r)) after ≡ put_each (rows_of_run t r) after
+    → put_all rows t (lawful_of (expand_run r)) after ≡ put_each (rows_of_run t r) after
 run_left rows t r after up found own = zones_left rows t r.verdicts r.zones after found ∙ lines_turned t r.zones r.verdicts after up own
 
 -- the rows of runs
-pub runs_left : (rows : List Row) (t : ℕ) (runs : List Run) (after : List Row) → IsStrictlySortedBy by_key after → AreFound rows runs → AreApart runs → put_each (rows_of_runs t runs) after ≡ put_all rows t (lawful_of (spelled runs)) after
+pub runs_left : (rows : List Row) (t : ℕ) (runs : List Run) (after : List Row) → IsStrictlySortedBy by_key after → AreFound rows runs → AreApart runs → put_each (rows_of_runs t runs) after ≡ put_all rows t (lawful_of (expand runs)) after
 runs_left rows t [] after up found apart = refl
 runs_left rows t (r ∷ runs) after up found apart =
     put_both (rows_of_run t r) (rows_of_runs t runs) after
     ∙ runs_left rows t runs (put_each (rows_of_run t r) after) (each-sorted (rows_of_run t r) after up) found.1 apart.1
-    ∙ ap (put_all rows t (lawful_of (spelled runs))) (sym (run_left rows t r after up found.0 apart.0))
-    ∙ sym (put_all-append rows t (lawful_of (spelled_run r)) (lawful_of (spelled runs)) after)
-    ∙ ap (λ (lines : List Line). put_all rows t lines after) (sym (lawful_of-append (spelled_run r) (spelled runs)))
+    ∙ ap (put_all rows t (lawful_of (expand runs))) (sym (run_left rows t r after up found.0 apart.0))
+    ∙ sym (put_all-append rows t (lawful_of (expand_run r)) (lawful_of (expand runs)) after)
+    ∙ ap (λ (lines : List Line). put_all rows t lines after) (sym (lawful_of-append (expand_run r) (expand runs)))

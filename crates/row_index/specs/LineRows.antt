@@ -5,11 +5,11 @@ use Rattle.hazard_types.specs.declared.line.Row.{Row}
 use Rattle.row_index.specs.declared.verdicts.Run.{Run}
 use Rattle.row_index.specs.declared.verdicts.Verdict.{Verdict}
 use Rattle.row_index.specs.Runs.{rows_along}
-use Rattle.row_index.specs.Verdicts.{is_lawful, left_by}
+use Rattle.row_index.specs.Verdicts.{leaves_row, left_by}
 
 -- the rows that a line leaves in these zones, where it is lawful
 abbrev pub rows_of_line : ℕ → List Place → Verdict → List Row
-rows_of_line t zones v = if is_lawful v then rows_along v.line.event (left_by t v) zones else []
+rows_of_line t zones v = if leaves_row v then rows_along v.line.event (left_by t v) zones else []
 
 -- those of the lines of a run, and of all runs
 abbrev pub rows_of_run : ℕ → Run → List Row

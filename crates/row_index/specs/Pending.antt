@@ -5,7 +5,7 @@ use Rattle.hazard_types.specs.declared.line.Row.{Row}
 use Rattle.event_life.specs.contracts.life.BreachPartialEq.TheImpl as breach
 use Rattle.event_life.specs.Products.{life_at}
 use Rattle.row_index.specs.Runs.{is_alike, same_life}
-use Rattle.row_index.specs.Verdicts.{spelled, AreApart, AreFound}
+use Rattle.row_index.specs.Verdicts.{expand, AreApart, AreFound}
 use Rattle.row_index.specs.declared.collecting.Alone.{Alone}
 use Rattle.row_index.specs.declared.verdicts.Run.{Run}
 use Rattle.row_index.specs.declared.verdicts.Verdict.{Verdict}
@@ -34,6 +34,6 @@ IsJoined true v old new = (a : Alone) × (old ≡ Some a) × (same_verdict a.ver
 
 -- the runs with one line more
 pub record IsWith (v : Verdict) (old new : List Run) : Type 0 where
-  pub told : spelled new ≡ spelled old ++ (v.line, v.breach) ∷ []
+  pub told : expand new ≡ expand old ++ (v.line, v.breach) ∷ []
   pub found : (rows : List Row) → life_at rows v.line ≡ v.found → AreFound rows old → AreFound rows new
   pub apart : AreApart old → AreApart new

@@ -20,7 +20,7 @@ use Rattle.row_index.specs.declared.standing.Standing.{Standing}
 use Rattle.row_index.specs.contracts.standing.StandingOrd.TheImpl as order
 use Rattle.row_index.specs.Numbers.{stands}
 use Rattle.row_index.specs.Runs.{rows_along}
-use Rattle.row_index.specs.Steps.{put_each, stays}
+use Rattle.row_index.specs.Steps.{put_each, has_same_period}
 use Rattle.row_index.specs.Tallies.{tally}
 use Rattle.row_index.specs.Zoning.{AreOfFirst, AreZoned}
 
@@ -89,7 +89,7 @@ some_more n life counts = if life.ended then counts else with_count by_standing 
 -- so many zones had one life, which stands as this one does
 abbrev pub all_stay : List Before → ℕ → Life → Bool
 all_stay [] n life = false
-all_stay (b ∷ []) n life = (b.zones == n) && stays b.life life
+all_stay (b ∷ []) n life = (b.zones == n) && has_same_period b.life life
 all_stay (b ∷ c ∷ bs) n life = false
 
 abbrev pub restood : List Before → ℕ → Life → List (Standing × ℕ) → List (Standing × ℕ)

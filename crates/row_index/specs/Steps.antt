@@ -65,9 +65,9 @@ abbrev pub put_each : List Row → List Row → List Row
 put_each left after = fold (λ (rows : List Row) (row : Row). put row rows) after left
 
 -- no line has ended the life or the one before, which had the same period
-abbrev pub stays : Option Life → Life → Bool
-stays None life = false
-stays (Some old) life = period.eq-value.it old.period life.period && not old.ended && not life.ended
+abbrev pub has_same_period : Option Life → Life → Bool
+has_same_period None life = false
+has_same_period (Some old) life = period.eq-value.it old.period life.period && not old.ended && not life.ended
 
 -- What a product changes where a higher row is looked for: the rows that its lawful lines other than UPG leave, each put in turn,
 -- and the seats that its UPG lines speak of.

@@ -33,14 +33,14 @@ abbrev pub lines_in : List Part → List Line
 lines_in parts = flat_map said_in parts
 
 -- the lines of runs with their breaches, in the order of the text
-abbrev pub spelled_at : List Verdict → Place → List Judged
-spelled_at verdicts z = map (λ (v : Verdict). (in_zone v.line z, v.breach)) verdicts
+abbrev pub expand_at : List Verdict → Place → List Judged
+expand_at verdicts z = map (λ (v : Verdict). (in_zone v.line z, v.breach)) verdicts
 
-abbrev pub spelled_run : Run → List Judged
-spelled_run r = flat_map (spelled_at r.verdicts) r.zones
+abbrev pub expand_run : Run → List Judged
+expand_run r = flat_map (expand_at r.verdicts) r.zones
 
-abbrev pub spelled : List Run → List Judged
-spelled runs = flat_map spelled_run runs
+abbrev pub expand : List Run → List Judged
+expand runs = flat_map expand_run runs
 
 -- the line found this life of its event in a zone
 abbrev pub IsFoundAt : List Row → Place → Verdict → Type 0
@@ -72,8 +72,8 @@ abbrev pub first_judged : List Row → ℕ → List Line → Line → Judged
 first_judged rows t all l = (l, breach_in rows t all [] l)
 
 -- the line is lawful and touches lives
-abbrev pub is_lawful : Verdict → Bool
-is_lawful v = not (is_routine v.line.action) && is_none v.breach
+abbrev pub leaves_row : Verdict → Bool
+leaves_row v = not (is_routine v.line.action) && is_none v.breach
 
 -- the life that a lawful line leaves of the one that it found
 abbrev pub left_by : ℕ → Verdict → Life

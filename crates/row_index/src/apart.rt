@@ -12,7 +12,7 @@ ghost use Rattle.row_index.specs.declared.verdicts.Part.{Part as PartValue};
 
 use crate::look::in_zone;
 use crate::parts::EventKey;
-use crate::spoken::Spoken;
+use crate::spoken::SeenKeys;
 use crate::verdicts::Part;
 use event_life::is_routine;
 use hazard_types::{Event, Line, Oom, Zone};
@@ -99,7 +99,7 @@ fn have_own_events(alloc: Global, parts: &[Part<'_>]) -> Result<bool, Oom>
 
 /// Whether none of the lines is a second one of its event in `zone`. Adds their keys to `spoken`,
 /// up to the first that is one.
-fn speak_zone(spoken: &mut Spoken, zone: &Zone, lines: &[Line]) -> Result<bool, Oom>
+fn mark_zone_seen(spoken: &mut SeenKeys, zone: &Zone, lines: &[Line]) -> Result<bool, Oom>
     requires { IsFree spoken.old.last spoken.old.rising.items }
     ensures first { IfOk result (λ first. first ≡ true
         → Spoke (seats_of spoken.old.rising.items spoken.old.others.keys)
@@ -107,7 +107,7 @@ fn speak_zone(spoken: &mut Spoken, zone: &Zone, lines: &[Line]) -> Result<bool, 
     ensures free { OnOk result (IsFree spoken.new.last spoken.new.rising.items) }
 {
     for line in lines {
-        let second = spoken.speak(!is_routine(&line.action), &in_zone(line, zone))?;
+        let second = spoken.mark_seen(!is_routine(&line.action), &in_zone(line, zone))?;
         if second {
             return Ok(false);
         }
@@ -117,7 +117,7 @@ fn speak_zone(spoken: &mut Spoken, zone: &Zone, lines: &[Line]) -> Result<bool, 
 
 /// Whether none of the lines of a part is a second one of its event and zone. Adds their keys to
 /// `spoken`, up to the first that is one.
-fn speak_part(spoken: &mut Spoken, part: &Part<'_>) -> Result<bool, Oom>
+fn mark_part_seen(spoken: &mut SeenKeys, part: &Part<'_>) -> Result<bool, Oom>
     requires { IsFree spoken.old.last spoken.old.rising.items }
     ensures first { IfOk result (λ first. first ≡ true
         → Spoke (seats_of spoken.old.rising.items spoken.old.others.keys)
@@ -125,7 +125,7 @@ fn speak_part(spoken: &mut Spoken, part: &Part<'_>) -> Result<bool, Oom>
     ensures free { OnOk result (IsFree spoken.new.last spoken.new.rising.items) }
 {
     for zone in part.zones {
-        let first = speak_zone(spoken, zone, part.lines.as_slice())?;
+        let first = mark_zone_seen(spoken, zone, part.lines.as_slice())?;
         if !first {
             return Ok(false);
         }
@@ -137,9 +137,9 @@ fn speak_part(spoken: &mut Spoken, part: &Part<'_>) -> Result<bool, Oom>
 fn none_second(alloc: Global, parts: &[Part<'_>]) -> Result<bool, Oom>
     ensures { IfOk result (λ first. first ≡ true → AreFirst [] (lines_in parts.now)) }
 {
-    let mut spoken = Spoken::new(alloc);
+    let mut spoken = SeenKeys::new(alloc);
     for part in parts {
-        let first = speak_part(&mut spoken, part)?;
+        let first = mark_part_seen(&mut spoken, part)?;
         if !first {
             return Ok(false);
         }

@@ -1,7 +1,7 @@
 //! Lines that were judged one by one, as runs of one line.
 ghost use Rattle.std.specs.Prelude.{◌≡◌, ◌++◌, ◌∷◌, [], IfOk, OnOk};
 ghost use Rattle.row_index.specs.Pending.{further, run_of, same_verdict, with_last, IsJoined, IsWith};
-ghost use Rattle.row_index.specs.Verdicts.{spelled, AreApart, AreFound};
+ghost use Rattle.row_index.specs.Verdicts.{expand, AreApart, AreFound};
 
 use crate::held::RowsOf;
 use crate::index::RowIndex;
@@ -98,7 +98,7 @@ fn begin(
 }
 
 /// Returns the runs, and the pending one after them if there is one.
-fn ended(alloc: Global, runs: Vec<Run>, last: Option<Alone>) -> Result<List<Run>, Oom>
+fn with_pending_run(alloc: Global, runs: Vec<Run>, last: Option<Alone>) -> Result<List<Run>, Oom>
     ensures { IfOk result (λ all. all ≡ with_last runs.items last) }
 {
     let mut runs = runs;
@@ -135,7 +135,7 @@ impl RowIndex {
         alloc: Global,
         judged: &[(Line, Option<Breach>)],
     ) -> Result<List<Run>, Oom>
-        ensures told { IfOk result (λ runs. spelled runs ≡ judged.now) }
+        ensures told { IfOk result (λ runs. expand runs ≡ judged.now) }
         ensures found { IfOk result (λ runs. AreFound self.now runs) }
         ensures apart { IfOk result (λ runs. AreApart runs) }
     {
@@ -156,6 +156,6 @@ impl RowIndex {
             };
             collect(alloc, &mut runs, &mut last, &verdict)?;
         }
-        ended(alloc, runs, last)
+        with_pending_run(alloc, runs, last)
     }
 }

@@ -22,7 +22,7 @@ use crate::parts::EventKey;
 use crate::reach::{Reaches, reach_each};
 use crate::seats::{Seated, put_seated};
 use crate::shared::SharedRows;
-use crate::standing::{Standings, has_same_among, is_open_among, restand};
+use crate::standing::{Standings, has_same_among, is_open_among, replace_counted};
 use event_life::Life;
 use hazard_types::{Event, List, Minute, Oom, Period, Row, Zone};
 use std::alloc::Global;
@@ -44,7 +44,7 @@ fn put_standing(
         (IsRunPut event.now life.now zones.now rows.old rows.new standing.new.entries) }
 {
     let befores = rows.set(alloc, event, life, zones)?;
-    restand(standing, &befores, zones.len(), life)
+    replace_counted(standing, &befores, zones.len(), life)
 }
 
 /// The rows of one event by zone, and how many of its unended rows have each period.

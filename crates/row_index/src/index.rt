@@ -25,9 +25,9 @@ use crate::numbers::{Events, Number, events_at, number_of};
 use crate::parts::HazardKey;
 use crate::reach::{Reaches, events_above};
 use crate::seats::{Seated, all_rows, count_row};
-use crate::spoken::Spoken;
+use crate::spoken::SeenKeys;
 use event_life::{
-    Around, Breach, Life, is_lawful, is_routine, is_upgrade, life_step, opened_period,
+    Around, Breach, Life, is_routine, is_upgrade, leaves_row, life_step, opened_period,
 };
 use hazard_types::{Action, Event, Line, List, Minute, Oom, Row, Vtec, Zone};
 use std::alloc::Global;
@@ -420,10 +420,10 @@ impl RowIndex {
         ensures seated { IfOk result (λ counted. AreSeated counted.entries) }
     {
         let mut counted = BTreeMap::new(alloc);
-        let mut spoken = Spoken::new(alloc);
+        let mut spoken = SeenKeys::new(alloc);
         let mut near = 0;
         for line in lines {
-            let second = spoken.speak(!is_routine(&line.action), line)?;
+            let second = spoken.mark_seen(!is_routine(&line.action), line)?;
             let rows = self.rows_of(&line.event);
             let counts = self.may_count(&rows, &mut near, t, line, second);
             count_row(
@@ -670,7 +670,7 @@ impl RowIndex {
         ensures { IfOk result (λ found. found ≡ judged self.now t lines.now) }
     {
         let changed = self.change_of(alloc, t, lines)?;
-        let mut spoken = Spoken::new(alloc);
+        let mut spoken = SeenKeys::new(alloc);
         let mut found = Vec::with_capacity(alloc, lines.len())?;
         let mut near = None;
         let mut rows = RowsOf::none();
@@ -681,7 +681,7 @@ impl RowIndex {
             near = Some(line.event);
             let around = self.around_near(&asked, &rows, t, line);
             asked = Some((*line, around));
-            let second = spoken.speak(!is_routine(&line.action), line)?;
+            let second = spoken.mark_seen(!is_routine(&line.action), line)?;
             let breach = self.breach_in(t, &changed, &rows, &mut place, line, second, around);
             found.push((*line, breach))?;
         }

@@ -10,7 +10,7 @@ ghost use Rattle.row_index.specs.Groups.{AreJudged, AreLonger, AreServed, IsAlik
 ghost use Rattle.row_index.specs.Runs.{in_zone, same_life};
 ghost use Rattle.row_index.specs.Seating.{AreSeated, upgrades};
 ghost use Rattle.row_index.specs.Steps.{AreOver, IsChanged};
-ghost use Rattle.row_index.specs.Verdicts.{AreFirst, first_judged, lines_in, spelled, AreApart, AreFound, HaveOwnEvents};
+ghost use Rattle.row_index.specs.Verdicts.{AreFirst, first_judged, lines_in, expand, AreApart, AreFound, HaveOwnEvents};
 ghost use Rattle.row_index.specs.declared.verdicts.Part.{Part as PartValue};
 
 use crate::apart::are_apart;
@@ -66,7 +66,7 @@ fn count_alike(
 }
 
 /// Whether two verdicts have the same life and the same breach.
-fn find_alike(a: &Verdict, b: &Verdict) -> bool
+fn have_same_findings(a: &Verdict, b: &Verdict) -> bool
     ensures { result ≡ true → (a.now.found ≡ b.now.found) × (a.now.breach ≡ b.now.breach) }
 {
     same_life(&a.found, &b.found) && a.breach == b.breach
@@ -128,7 +128,7 @@ impl RowIndex {
         let mut count = 0;
         for zone in zones {
             let other = self.verdict_at(asking, near, zone);
-            if !find_alike(&other, verdict) {
+            if !have_same_findings(&other, verdict) {
                 return count;
             }
             count += 1;
@@ -302,7 +302,7 @@ impl RowIndex {
     fn judge_apart(&self, alloc: Global, t: Minute, parts: &[Part<'_>]) -> Result<List<Run>, Oom>
         requires first { AreFirst [] (lines_in parts.now) }
         requires events { AllByRecursion (λ (p : PartValue). HaveOwnEvents p.lines) parts.now }
-        ensures told { IfOk result (λ runs. spelled runs
+        ensures told { IfOk result (λ runs. expand runs
             ≡ map (first_judged self.now t (lines_in parts.now)) (lines_in parts.now)) }
         ensures found { IfOk result (λ runs. AreFound self.now runs) }
         ensures apart { IfOk result (λ runs. AreApart runs) }
@@ -336,7 +336,7 @@ impl RowIndex {
         self.change_first(alloc, t, lines.as_slice())
     }
 
-    /// Judges the lines of a product one by one and returns them as runs: `spelled` makes of these
+    /// Judges the lines of a product one by one and returns them as runs: `expand` makes of these
     /// what `judge` returns. `self` has the rows just before the product, and `t` is the product's
     /// issue minute.
     ///
@@ -344,7 +344,7 @@ impl RowIndex {
     ///
     /// Out of memory.
     pub fn judge_lines(&self, alloc: Global, t: Minute, lines: &[Line]) -> Result<List<Run>, Oom>
-        ensures told { IfOk result (λ runs. spelled runs ≡ judged self.now t (lines.now)) }
+        ensures told { IfOk result (λ runs. expand runs ≡ judged self.now t (lines.now)) }
         ensures found { IfOk result (λ runs. AreFound self.now runs) }
         ensures apart { IfOk result (λ runs. AreApart runs) }
     {
@@ -367,7 +367,7 @@ impl RowIndex {
         t: Minute,
         parts: &[Part<'_>],
     ) -> Result<List<Run>, Oom>
-        ensures told { IfOk result (λ runs. spelled runs ≡ judged self.now t (lines_in parts.now)) }
+        ensures told { IfOk result (λ runs. expand runs ≡ judged self.now t (lines_in parts.now)) }
         ensures found { IfOk result (λ runs. AreFound self.now runs) }
         ensures apart { IfOk result (λ runs. AreApart runs) }
     {

@@ -4,7 +4,7 @@ ghost use Rattle.event_life.specs.Products.{lawful_of, put_all};
 ghost use Rattle.row_index.specs.LineRows.{rows_of_line, rows_of_run, rows_of_runs};
 ghost use Rattle.row_index.specs.Runs.{rows_along};
 ghost use Rattle.row_index.specs.Steps.{put_each};
-ghost use Rattle.row_index.specs.Verdicts.{left_by, spelled, AreApart, AreFound};
+ghost use Rattle.row_index.specs.Verdicts.{left_by, expand, AreApart, AreFound};
 
 use crate::held::put_held;
 use crate::index::RowIndex;
@@ -61,7 +61,7 @@ impl RowIndex {
         ensures { IfOk result
             (λ index. index ≡ put_each (rows_of_line t zones.now verdict.now) self) }
     {
-        if verdict.is_lawful() {
+        if verdict.leaves_row() {
             self.put_left(alloc, t, verdict, zones)
         } else {
             Ok(self)
@@ -100,7 +100,7 @@ impl RowIndex {
         requires found { AreFound self runs.now }
         requires apart { AreApart runs.now }
         ensures { IfOk result
-            (λ index. index ≡ put_all self t (lawful_of (spelled runs.now)) self) }
+            (λ index. index ≡ put_all self t (lawful_of (expand runs.now)) self) }
     {
         let _ = &self.reach;
         self.put_runs(alloc, t, runs)

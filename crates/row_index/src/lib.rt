@@ -26,4 +26,4 @@ mod verdicts;
 
 pub use index::RowIndex;
 pub use parts::EventKey;
-pub use verdicts::{Part, Run, Verdict, spelled};
+pub use verdicts::{Part, Run, Verdict, expand};

@@ -406,13 +406,13 @@ impl LifeMap {
     }
 
     /// Returns the same map without unreferenced lives.
-    fn settled(&self, alloc: Global, event: &Event) -> Result<LifeMap, Oom>
+    fn compacted(&self, alloc: Global, event: &Event) -> Result<LifeMap, Oom>
         ensures { IfOk result (λ map. map ≡ self.now) }
     {
         let rows = self.rows(alloc, event)?;
-        let mut settled = LifeMap::new(alloc);
-        settled.put_all(&rows)?;
-        Ok(settled)
+        let mut compacted = LifeMap::new(alloc);
+        compacted.put_all(&rows)?;
+        Ok(compacted)
     }
 
     /// Whether there are more lives than twice the zones and `SPARE`.
@@ -421,11 +421,11 @@ impl LifeMap {
     }
 
     /// Drops unreferenced lives once they outnumber the others.
-    fn settle(&mut self, alloc: Global, event: &Event) -> Result<(), Oom>
+    fn compact(&mut self, alloc: Global, event: &Event) -> Result<(), Oom>
         ensures { self.new ≡ self.old }
     {
         if self.is_loose() {
-            *self = self.settled(alloc, event)?;
+            *self = self.compacted(alloc, event)?;
         }
         Ok(())
     }
@@ -444,7 +444,7 @@ impl LifeMap {
             IsTallied p (values_of self.old) (values_of self.new) befores.items
             (length zones.now) life.now) }
     {
-        self.settle(alloc, event)?;
+        self.compact(alloc, event)?;
         self.put_each(alloc, life, zones)
     }
 }

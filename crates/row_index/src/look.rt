@@ -3,7 +3,7 @@ ghost use Rattle.std.specs.Prelude.{◌≡◌, option_map};
 ghost use Rattle.event_life.specs.Lives.{opens};
 ghost use Rattle.event_life.specs.Products.{later_event};
 ghost use Rattle.row_index.specs.Runs.{in_zone, is_alike, same_life};
-ghost use Rattle.row_index.specs.Steps.{asks_alike, nothing_around, stays};
+ghost use Rattle.row_index.specs.Steps.{asks_alike, nothing_around, has_same_period};
 
 use event_life::{Around, Life, opened_period};
 use hazard_types::{Action, Event, Line, Minute, Zone};
@@ -91,8 +91,8 @@ pub fn asks_alike(t: Minute, a: &Line, b: &Line) -> bool
 }
 
 /// Whether neither life is ended and both have one period.
-pub fn stays(before: &Option<Life>, life: &Life) -> bool
-    ensures { result ≡ stays before.now life.now }
+pub fn has_same_period(before: &Option<Life>, life: &Life) -> bool
+    ensures { result ≡ has_same_period before.now life.now }
 {
     match before {
         Some(old) => old.period == life.period && !old.ended && !life.ended,

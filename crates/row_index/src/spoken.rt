@@ -13,7 +13,7 @@ use std::collections::BTreeSet;
 /// The keys (zone and event) of lines. Those that ascend are in a list, until one comes that is not
 /// after the last of them; then they are moved to the set.
 #[derive(Drop)]
-pub struct Spoken {
+pub struct SeenKeys {
     pub last: Option<Seat>,
     pub rising: Vec<Seat>,
     pub others: Seats,
@@ -40,7 +40,7 @@ fn is_behind(last: &Option<Seat>, seat: &Seat) -> bool
 }
 
 /// Moves the ascending keys to the set.
-fn settle(rising: &mut Vec<Seat>, others: &mut Seats) -> Result<(), Oom>
+fn move_to_set(rising: &mut Vec<Seat>, others: &mut Seats) -> Result<(), Oom>
     ensures none { OnOk result (rising.new.items ≡ []) }
     ensures all { OnOk result (Joins rising.old.items others.old.keys others.new.keys) }
 {
@@ -60,7 +60,7 @@ fn join(seats: &[Seat], others: &mut Seats) -> Result<(), Oom>
 }
 
 /// Appends the key of a line to the ascending ones if `counts`.
-fn rise(
+fn push_ascending(
     last: &mut Option<Seat>,
     rising: &mut Vec<Seat>,
     counts: bool,
@@ -76,20 +76,20 @@ fn rise(
     Ok(())
 }
 
-impl Spoken {
+impl SeenKeys {
     pub fn new(alloc: Global) -> Self
         ensures none { seats_of result.rising.items result.others.keys ≡ [] }
         ensures free { IsFree result.last result.rising.items }
     {
-        Spoken {
+        SeenKeys {
             last: None,
             rising: Vec::new(alloc),
             others: BTreeSet::new(alloc),
         }
     }
 
-    /// `speak` for a key that is after the last of the ascending ones.
-    fn speak_behind(&mut self, counts: bool, line: &Line) -> Result<bool, Oom>
+    /// `mark_seen` for a key that is after the last of the ascending ones.
+    fn mark_seen_ascending(&mut self, counts: bool, line: &Line) -> Result<bool, Oom>
         requires free { IsFree self.old.last self.old.rising.items }
         requires behind { is_behind self.old.last (seat_said line.now) ≡ true }
         ensures second { IfOk result (λ second. second
@@ -99,26 +99,26 @@ impl Spoken {
         ensures free { OnOk result (IsFree self.new.last self.new.rising.items) }
     {
         let second = has_seat(&self.others, &line.event, &line.zone);
-        rise(&mut self.last, &mut self.rising, counts, line)?;
+        push_ascending(&mut self.last, &mut self.rising, counts, line)?;
         Ok(second)
     }
 
-    /// `speak` for any other key: the ascending ones are moved to the set first.
-    fn speak_among(&mut self, counts: bool, line: &Line) -> Result<bool, Oom>
+    /// `mark_seen` for any other key: the ascending ones are moved to the set first.
+    fn mark_seen_in_set(&mut self, counts: bool, line: &Line) -> Result<bool, Oom>
         ensures second { IfOk result (λ second. second
             ≡ has_seat (seats_of self.old.rising.items self.old.others.keys) (seat_said line.now)) }
         ensures said { OnOk result (Says (seats_of self.old.rising.items self.old.others.keys)
             (seats_of self.new.rising.items self.new.others.keys) counts line.now) }
         ensures free { OnOk result (IsFree self.new.last self.new.rising.items) }
     {
-        settle(&mut self.rising, &mut self.others)?;
+        move_to_set(&mut self.rising, &mut self.others)?;
         let second = has_seat(&self.others, &line.event, &line.zone);
         add_seat(&mut self.others, counts, line)?;
         Ok(second)
     }
 
     /// Returns whether the key of a line is there, and adds it if `counts`.
-    pub fn speak(&mut self, counts: bool, line: &Line) -> Result<bool, Oom>
+    pub fn mark_seen(&mut self, counts: bool, line: &Line) -> Result<bool, Oom>
         requires { IsFree self.old.last self.old.rising.items }
         ensures second { IfOk result (λ second. second
             ≡ has_seat (seats_of self.old.rising.items self.old.others.keys) (seat_said line.now)) }
@@ -127,9 +127,9 @@ impl Spoken {
         ensures free { OnOk result (IsFree self.new.last self.new.rising.items) }
     {
         if is_behind(&self.last, &seat_said(line)) {
-            self.speak_behind(counts, line)
+            self.mark_seen_ascending(counts, line)
         } else {
-            self.speak_among(counts, line)
+            self.mark_seen_in_set(counts, line)
         }
     }
 }

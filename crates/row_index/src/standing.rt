@@ -7,7 +7,7 @@ ghost use Rattle.event_life.specs.Periods.{ends_after};
 ghost use Rattle.row_index.specs.Standings.{period_at, standing_of, lies, lies_from, open_from, same_from, same_to, count_at, with_count, some_less, all_less, some_more, all_stay, restood, life_standing};
 
 use crate::keys::any_between;
-use crate::look::stays;
+use crate::look::has_same_period;
 use event_life::{Life, ends_after};
 use hazard_types::{End, Minute, Oom, Period};
 use std::collections::BTreeMap;
@@ -178,14 +178,14 @@ fn all_stay(befores: &[Before], zones: usize, life: &Life) -> bool
     ensures { result ≡ all_stay befores.now zones life.now }
 {
     match befores {
-        [before] => before.zones == zones && stays(&before.life, life),
+        [before] => before.zones == zones && has_same_period(&before.life, life),
         _ => false,
     }
 }
 
 /// Replaces the rows of zones in the counts: those with the lives of `befores` by `zones` rows with
 /// `life`. An ended row is not counted.
-pub fn restand(
+pub fn replace_counted(
     standings: &mut Standings,
     befores: &[Before],
     zones: usize,

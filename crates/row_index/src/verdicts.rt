@@ -2,7 +2,7 @@
 
 ghost use Rattle.std.specs.Prelude.{◌≡◌, ◌++◌, ◌∷◌, [], IfOk, OnOk};
 ghost use Rattle.std.specs.List.{list_any};
-ghost use Rattle.row_index.specs.Verdicts.{has_breach, is_breach, is_lawful, left_by, lines_in, said_at, said_in, spelled, spelled_at, spelled_run};
+ghost use Rattle.row_index.specs.Verdicts.{has_breach, is_breach, leaves_row, left_by, lines_in, said_at, said_in, expand, expand_at, expand_run};
 
 use crate::lives::{life_of as life_in, row_with};
 use crate::look::in_zone;
@@ -31,8 +31,8 @@ pub struct Verdict {
 
 impl Verdict {
     /// Whether the line is lawful and not routine.
-    pub fn is_lawful(&self) -> bool
-        ensures { result ≡ is_lawful self.now }
+    pub fn leaves_row(&self) -> bool
+        ensures { result ≡ leaves_row self.now }
     {
         !is_routine(&self.line.action) && self.breach.is_none()
     }
@@ -106,7 +106,7 @@ impl Run {
     /// Adds the lines of the run in one zone to `out`.
     fn put_zone(&self, zone: &Zone, out: &mut Vec<(Line, Option<Breach>)>) -> Result<(), Oom>
         ensures { OnOk result
-            (out.new.items ≡ out.old.items ++ spelled_at self.now.verdicts zone.now) }
+            (out.new.items ≡ out.old.items ++ expand_at self.now.verdicts zone.now) }
     {
         for verdict in self.verdicts.as_slice() {
             out.push((in_zone(&verdict.line, zone), verdict.breach))?;
@@ -120,7 +120,7 @@ impl Run {
     ///
     /// Out of memory.
     pub fn put_spelled(&self, out: &mut Vec<(Line, Option<Breach>)>) -> Result<(), Oom>
-        ensures { OnOk result (out.new.items ≡ out.old.items ++ spelled_run self.now) }
+        ensures { OnOk result (out.new.items ≡ out.old.items ++ expand_run self.now) }
     {
         for zone in self.zones.as_slice() {
             self.put_zone(zone, out)?;
@@ -135,8 +135,8 @@ impl Run {
 /// # Errors
 ///
 /// Out of memory.
-pub fn spelled(alloc: Global, runs: &[Run]) -> Result<List<(Line, Option<Breach>)>, Oom>
-    ensures { IfOk result (λ judged. judged ≡ spelled runs.now) }
+pub fn expand(alloc: Global, runs: &[Run]) -> Result<List<(Line, Option<Breach>)>, Oom>
+    ensures { IfOk result (λ judged. judged ≡ expand runs.now) }
 {
     let mut out = Vec::new(alloc);
     for run in runs {

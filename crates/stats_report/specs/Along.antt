@@ -3,13 +3,13 @@ use Rattle.std.specs.Prelude.{List, [], ◌∷◌, map, flat_map, if◌then◌el
 use Rattle.hazard_types.specs.Places.{Place}
 use Rattle.hazard_types.specs.declared.line.Line.{Line}
 use Rattle.row_index.specs.Runs.{in_zone}
-use Rattle.row_index.specs.Verdicts.{is_lawful}
+use Rattle.row_index.specs.Verdicts.{leaves_row}
 use Rattle.row_index.specs.declared.verdicts.Verdict.{Verdict}
 
 -- the lines that are lawful and touch lives
 abbrev pub lawful_in : List Verdict → List Line
 lawful_in [] = []
-lawful_in (v ∷ verdicts) = if is_lawful v then v.line ∷ lawful_in verdicts else lawful_in verdicts
+lawful_in (v ∷ verdicts) = if leaves_row v then v.line ∷ lawful_in verdicts else lawful_in verdicts
 
 -- the same line in each of these zones
 abbrev pub along : Line → List Place → List Line

@@ -6,7 +6,7 @@ ghost use Rattle.stats_report.specs.Adding.{sum_at, with_event};
 
 use crate::keys::HazardKey;
 use crate::standing::Spells;
-use crate::sums::more;
+use crate::sums::checked_sum;
 use hazard_types::{Event, Oom};
 use std::alloc::Global;
 use std::collections::BTreeMap;
@@ -29,7 +29,7 @@ fn add_event(events: &mut Events, event: &Event) -> Result<(), Oom>
     ensures { OnOk result (events.new.entries ≡ with_event events.old.entries event.now) }
 {
     let hazard = HazardKey::of(&event.hazard);
-    let count = more(events_of(events, &hazard), 1)?;
+    let count = checked_sum(events_of(events, &hazard), 1)?;
     events.insert(hazard, count)?;
     Ok(())
 }

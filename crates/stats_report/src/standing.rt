@@ -5,7 +5,7 @@ ghost use Rattle.std.specs.BTreeMap.{insert_entry};
 ghost use Rattle.event_life.specs.Lives.{opens, ends};
 ghost use Rattle.hazard_types.specs.Orders.{by_hazard};
 ghost use Rattle.hazard_types.specs.Places.{by_place};
-ghost use Rattle.row_index.specs.Verdicts.{spelled, spelled_run, AreApart, HaveOwnEvents};
+ghost use Rattle.row_index.specs.Verdicts.{expand, expand_run, AreApart, HaveOwnEvents};
 ghost use Rattle.stats_report.specs.Along.{lawful_in, line_by_line};
 ghost use Rattle.stats_report.specs.Minutes.{cut_at};
 ghost use Rattle.stats_report.specs.Spells.{begin_printed, spell_left, left_of, spell_after, gain_of, gained};
@@ -311,7 +311,7 @@ impl Standing {
             (line_by_line (lawful_in (verdict.now ∷ [])) places.now)
             (kept_of self.old) (kept_of self.new)) }
     {
-        if !verdict.is_lawful() {
+        if !verdict.leaves_row() {
             return Ok(());
         }
         if places.is_empty() {
@@ -343,7 +343,7 @@ impl Standing {
     fn change_run(&mut self, alloc: Global, moment: &Moment, run: &Run) -> Result<(), Oom>
         requires { HaveOwnEvents (map (λ v. v.line) run.now.verdicts) }
         ensures { OnOk result
-            (TakesLines moment.now (spelled_run run.now) (kept_of self.old) (kept_of self.new)) }
+            (TakesLines moment.now (expand_run run.now) (kept_of self.old) (kept_of self.new)) }
     {
         let verdicts = run.verdicts.as_slice();
         self.change_verdicts(alloc, moment, verdicts, run.zones.as_slice())
@@ -357,7 +357,7 @@ impl Standing {
     pub fn change_all(&mut self, alloc: Global, moment: &Moment, runs: &[Run]) -> Result<(), Oom>
         requires { AreApart runs.now }
         ensures { OnOk result
-            (TakesLines moment.now (spelled runs.now) (kept_of self.old) (kept_of self.new)) }
+            (TakesLines moment.now (expand runs.now) (kept_of self.old) (kept_of self.new)) }
     {
         for run in runs {
             self.change_run(alloc, moment, run)?;

@@ -41,7 +41,7 @@ pub fn no_sums() -> Sums
 /// # Errors
 ///
 /// `Oom` if the sum overflows, which no input causes.
-pub fn more(sum: u128, amount: u128) -> Result<u128, Oom>
+pub fn checked_sum(sum: u128, amount: u128) -> Result<u128, Oom>
     ensures ok { IfOk result (λ n. n ≡ sum + amount) }
     ensures err { OnErr result (2 ^ 128 ≤ sum + amount) }
 {
@@ -61,7 +61,7 @@ pub fn more(sum: u128, amount: u128) -> Result<u128, Oom>
 pub fn gained(sums: &Sums, gain: &Gain) -> Result<Sums, Oom>
     ensures { IfOk result (λ s. s ≡ gained sums.now gain.now) }
 {
-    let minutes = more(sums.minutes, gain.minutes)?.saturating_sub(gain.gone);
+    let minutes = checked_sum(sums.minutes, gain.minutes)?.saturating_sub(gain.gone);
     if gain.openings == 0 && gain.lead == 0 {
         return Ok(Sums {
             openings: sums.openings,
@@ -70,8 +70,8 @@ pub fn gained(sums: &Sums, gain: &Gain) -> Result<Sums, Oom>
         });
     }
     Ok(Sums {
-        openings: more(sums.openings, gain.openings)?,
-        lead: more(sums.lead, gain.lead)?,
+        openings: checked_sum(sums.openings, gain.openings)?,
+        lead: checked_sum(sums.lead, gain.lead)?,
         minutes,
     })
 }

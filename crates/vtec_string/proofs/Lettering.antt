@@ -5,7 +5,7 @@ use Rattle.std.specs.Str.{bytes_eq}
 use Rattle.std.proofs.lemmas.Bool.{cases_Bool}
 use Rattle.std.proofs.lemmas.Option.{same_Some, none-some}
 use Rattle.std.proofs.lemmas.Slice.Eq.{bytes_eq-Decides}
-use Rattle.hazard_types.specs.Codes.{unfilled, value_beside}
+use Rattle.hazard_types.specs.Codes.{without_padding, value_beside}
 use Rattle.hazard_types.specs.Tables.{class_rows, action_rows, sig_rows}
 use Rattle.hazard_types.specs.declared.codes.Coded.{Coded}
 use Rattle.hazard_types.specs.declared.codes.Class.{Class}
@@ -17,9 +17,9 @@ use Rattle.hazard_types.specs.declared.hazard.Sig.TheVariants as sig
 use Rattle.hazard_types.specs.Letters.{class_code, action_code, sig_code}
 
 -- what stands beside letters has these letters, where each row's code is that of its value
-letters_are : {T : Type 0} (code : T → List ℕ) (rows : List (Coded T)) → AllByRecursion (λ (row : Coded T). unfilled row.code ≡ code row.value) rows → (text : List ℕ) (v : T) → value_beside rows text ≡ Some v → text ≡ code v
+letters_are : {T : Type 0} (code : T → List ℕ) (rows : List (Coded T)) → AllByRecursion (λ (row : Coded T). without_padding row.code ≡ code row.value) rows → (text : List ℕ) (v : T) → value_beside rows text ≡ Some v → text ≡ code v
 letters_are code [] all text v h = absurd (none-some v h)
-letters_are {T} code (row ∷ rows) all text v h = elim (cases_Bool (bytes_eq (unfilled row.code) text)) [
+letters_are {T} code (row ∷ rows) all text v h = elim (cases_Bool (bytes_eq (without_padding row.code) text)) [
   | inl e ↦ let same : Some row.value ≡ Some v = rw e at h in sym ((bytes_eq-Decides _ _).0 e) ∙ all.0 ∙ ap code (same_Some _ _ same)
   | inr e ↦ letters_are code rows all.1 text v (rw e at h)
 ]

@@ -19,7 +19,7 @@ fn letters_of(phen: Phen) -> [u8; 2]
 
 /// Returns the template with the values in its columns.
 #[tactic(auto, unfolding(crate::specs::Columns::vtec_text))]
-fn filled(v: &Vtec) -> [u8; LENGTH]
+fn filled_template(v: &Vtec) -> [u8; LENGTH]
     requires { v.now.etn ≤ 9999 }
     ensures value { result ≡ vtec_text v.now }
     ensures begin { IsTime (time_text v.now.begin) v.now.begin }
@@ -51,5 +51,5 @@ pub fn vtec_text(v: &Vtec) -> [u8; LENGTH]
     // No other bytes have these values.
     ensures only { (bytes : Seq ℕ) → IsVtec bytes v.now → bytes ≡ result }
 {
-    filled(v)
+    filled_template(v)
 }

@@ -70,7 +70,7 @@ impl<R, D: Disk, C, G> Service<'_, R, D, C, G> {
     /// the whole part of `connections` / W, and one more if k, counted from 1, is at most the
     /// remainder. If memory runs out for a worker its door goes back to the port. Returns the
     /// workers, and the number of links that have none.
-    pub(crate) fn hire<P: Port>(
+    pub(crate) fn share_out<P: Port>(
         &self,
         pass: &mut Pass<SharedOffice<D>>,
         port: &mut P,

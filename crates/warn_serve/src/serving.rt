@@ -153,7 +153,7 @@ impl<R: Threads + Wait + Sync, D: Disk + Send, C: Clock + Sync, G: Gate + Sync> 
             Err(Or::No(Failed)) => return ServeEnd::PortFault,
             Err(Or::OutOfMemory) => return ServeEnd::OutOfMemory,
         };
-        let (hired, lost) = self.hire(pass, port, doors, connections);
+        let (hired, lost) = self.share_out(pass, port, doors, connections);
         let end = self.serve_shares(pass, port, hired);
         short_of(end, lost)
     }

@@ -70,7 +70,7 @@ fn insert_all<V: Copy>(
 }
 
 /// Moves the entries of the list into the tree, if there is a list.
-fn settle<V: Copy>(
+fn move_to_tree<V: Copy>(
     rising: &mut Option<Vec<(ZoneCode, V)>>,
     others: &mut BTreeMap<ZoneCode, V>,
 ) -> Result<(), Oom>
@@ -160,7 +160,7 @@ impl<V: Copy> ZoneMap<V> {
                 return set_at(list, seat, &code, value, before);
             }
         }
-        settle(&mut self.rising, &mut self.others)?;
+        move_to_tree(&mut self.rising, &mut self.others)?;
         set_among(&mut self.others, code, value, before)
     }
 

@@ -10,9 +10,9 @@ returns-then-place-counted-clause-absent c =
 pub returns-then-is_eq-clause-found : goal.returns-then-is_eq-clause-found
 returns-then-is_eq-clause-found c =
     place_there c.args.h.now c.args.year c.args.counted.now c.counts_before-place.result c.counts_before-place.ensures.point.0 c.counts_before-place.ensures.point.1 c.index-counted-place.result (omega (arith, c.if-place-counted.false)) c.index-counted-place.is
-    (sym (ap is_eq c.against.ensures) ∙ sym c.is_eq.ensures ∙ c.if-is_eq.true)
+    (sym (ap is_eq c.cmp_key.ensures) ∙ sym c.is_eq.ensures ∙ c.if-is_eq.true)
 
 pub returns-else-is_eq-clause-absent : goal.returns-else-is_eq-clause-absent
 returns-else-is_eq-clause-absent c =
     gap_before c.args.h.now c.args.year c.args.counted.now c.counts_before-place.result c.counts_before-place.ensures.point.0 c.counts_before-place.ensures.point.1 c.requires c.index-counted-place.result (omega (arith, c.if-place-counted.false)) c.index-counted-place.is
-    (sym (ap is_eq c.against.ensures) ∙ sym c.is_eq.ensures ∙ c.if-is_eq.false)
+    (sym (ap is_eq c.cmp_key.ensures) ∙ sym c.is_eq.ensures ∙ c.if-is_eq.false)

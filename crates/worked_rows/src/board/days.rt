@@ -23,7 +23,7 @@ use crate::board::series::{last_of, letters_of, original_of};
 use action_planner::{
     corrected_lines_are_distinct, corrections_keep_what_stands, lines_have_four_digits,
     nothing_stands_at_first, opened_events_are_drawn_in_order, plan, plan_correction,
-    planned_lines_are_distinct, plans_keep_what_stands, what_stands_stands_later,
+    planned_lines_are_distinct, plans_keep_what_stands, standing_conditions_persist,
 };
 use event_life::rows_stay_in_order;
 use event_numbers::Numbers;
@@ -139,7 +139,7 @@ impl Day {
             broken draft.now.category self.now.rows t
             (placed self.now.counts t draft.now.intents) ≡ Some r }
     {
-        what_stands_stands_later();
+        standing_conditions_persist();
         lines_have_four_digits();
         let plan = plan(alloc, &self.board, &self.numbers, draft, t)?;
         Ok(plan)
@@ -173,7 +173,7 @@ impl Day {
             (placed self.old.counts t draft.now.intents) ≡ Some r }
         ensures unchanged { OnErr result (self.new ≡ self.old) }
     {
-        what_stands_stands_later();
+        standing_conditions_persist();
         opened_events_are_drawn_in_order();
         plans_keep_what_stands();
         planned_lines_are_distinct();
@@ -229,7 +229,7 @@ impl Day {
             (letters_of self.old.products (original_of s)) texts.now ≡ Some r }
         ensures unchanged { OnErr result (self.new ≡ self.old) }
     {
-        what_stands_stands_later();
+        standing_conditions_persist();
         corrections_keep_what_stands();
         corrected_lines_are_distinct();
         lines_have_four_digits();

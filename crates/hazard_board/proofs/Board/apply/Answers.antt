@@ -57,9 +57,9 @@ come c = few_come c.self.inside.rows.rows c.args.t c.args.lines.now c.self.insid
 ordered : (c : After-bring_lines) → IsStrictlySortedBy by_key c.bring_lines.new.rows.rows
 ordered c = rw (turned c) (rows_after-sorted c.self.inside.rows.rows c.args.t c.args.lines.now c.self.invariant.0)
 
-pub settle-requires-clause-room : goal.settle-requires-clause-room
-settle-requires-clause-room c =
-    let few = come (goal.at.settle-requires-clause-room c).After-bring_lines in
+pub set_latest_ends-requires-clause-room : goal.set_latest_ends-requires-clause-room
+set_latest_ends-requires-clause-room c =
+    let few = come (goal.at.set_latest_ends-requires-clause-room c).After-bring_lines in
     let spare = ap (λ (p : Posted). p.spare) c.self.view_is in
     rw (c.as_slice-lines.ensures) (omega (arith, few, spare, c.requires.spare, c.self.inside.standing.ok.0, c.self.inside.standing.ok.1))
 
@@ -76,14 +76,14 @@ invariant_of-self c =
     let now = c.bring_lines.new.rows.rows in
     let lines = c.args.lines.now in
     let turns : now ≡ taken_in_turn c.args.t rows lines = c.bring_lines.ensures.rows ∙ ap (λ (some : List Line). taken_in_turn c.args.t rows some) c.as_slice-lines.ensures in
-    let ends : (e : Event) → end_in c.settle.new.standing.items e ≡ latest_end now e = λ e.
-    c.settle.ensures.ends e
+    let ends : (e : Event) → end_in c.set_latest_ends.new.standing.items e ≡ latest_end now e = λ e.
+    c.set_latest_ends.ensures.ends e
     ∙ ap (λ (o : Option End). cond (touched c.as_slice-lines.result.now e) o (end_in c.self.inside.standing.items e)) (ap (λ (xs : List PeriodCount). latest_in xs e) c.deref.ensures.value ∙ latest_is now c.bring_lines.new.periods.items c.bring_lines.ensures.periods e)
     ∙ ap (λ (some : List Line). cond (touched some e) (latest_end now e) (end_in c.self.inside.standing.items e)) c.as_slice-lines.ensures
     ∙ kept_or_set c.args.t e rows lines now c.self.inside.standing.items turns (c.self.invariant.1.latest e) in
     rw (c.pass.ensures.rows) (
       ordered (goal.at.invariant_of-self c).After-bring_lines,
-      record { order = c.settle.ensures.order; latest = ends },
+      record { order = c.set_latest_ends.ensures.order; latest = ends },
       c.bring_lines.ensures.spots,
       c.bring_lines.ensures.periods,
       within (goal.at.invariant_of-self c).After-bring_lines,
@@ -101,4 +101,4 @@ returns-clause-spare c =
     let spare = ap (λ (p : Posted). p.spare) c.self.view_is in
     let count = c.bring_lines.ensures.spots.count in
     let counted = ap (newly c.self.inside.standing.items) c.as_slice-lines.ensures in
-    omega (arith, long, few, items, spare, count, counted, c.self.invariant.2.count, c.bring_lines.ensures.capacity, c.bring_lines.ensures.counts, c.bring_lines.ensures.spare, c.settle.ensures.capacity, c.settle.ensures.length, c.self.inside.spots.ok.0, c.bring_lines.new.spots.ok.0)
+    omega (arith, long, few, items, spare, count, counted, c.self.invariant.2.count, c.bring_lines.ensures.capacity, c.bring_lines.ensures.counts, c.bring_lines.ensures.spare, c.set_latest_ends.ensures.capacity, c.set_latest_ends.ensures.length, c.self.inside.spots.ok.0, c.bring_lines.new.spots.ok.0)

@@ -19,18 +19,18 @@ pub returns-in_err-reserve_later-clause-spare : goal.returns-in_err-reserve_late
 returns-in_err-reserve_later-clause-spare c =
     least_kept c.args.n _ _ c.args.later.now.items c.reserve_later.new.later.items (omega arith) c.in_err-reserve_later.ensures.kept.room
 
-pub returns-in_err-part_first-clause-spare : goal.returns-in_err-part_first-clause-spare
-returns-in_err-part_first-clause-spare c =
-    least_kept c.args.n _ _ c.args.later.now.items c.part_first.new.later.items c.in_err-part_first.ensures.spare (λ m low have. c.in_err-part_first.ensures.room m low (c.in_ok-reserve_later.ensures.kept.room m low have))
+pub returns-in_err-split_first_shelf-clause-spare : goal.returns-in_err-split_first_shelf-clause-spare
+returns-in_err-split_first_shelf-clause-spare c =
+    least_kept c.args.n _ _ c.args.later.now.items c.split_first_shelf.new.later.items c.in_err-split_first_shelf.ensures.spare (λ m low have. c.in_err-split_first_shelf.ensures.room m low (c.in_ok-reserve_later.ensures.kept.room m low have))
 
 pub returns-in_err-reserve-clause-spare : goal.returns-in_err-reserve-clause-spare
 returns-in_err-reserve-clause-spare c =
-    least_kept c.args.n _ _ c.args.later.now.items c.part_first.new.later.items (omega (arith, c.in_ok-part_first.ensures.spare, c.in_err-reserve.ensures.len, c.in_err-reserve.ensures.capacity)) (λ m low have. c.in_ok-part_first.ensures.room m low (c.in_ok-reserve_later.ensures.kept.room m low have))
+    least_kept c.args.n _ _ c.args.later.now.items c.split_first_shelf.new.later.items (omega (arith, c.in_ok-split_first_shelf.ensures.spare, c.in_err-reserve.ensures.len, c.in_err-reserve.ensures.capacity)) (λ m low have. c.in_ok-split_first_shelf.ensures.room m low (c.in_ok-reserve_later.ensures.kept.room m low have))
 
 pub returns-clause-spare : goal.returns-clause-spare
 returns-clause-spare c =
-    least_kept c.args.n _ _ c.args.later.now.items c.part_first.new.later.items (omega (arith, c.in_ok-part_first.ensures.spare, c.in_ok-reserve.ensures.len, c.in_ok-reserve.ensures.capacity)) (λ m low have. c.in_ok-part_first.ensures.room m low (c.in_ok-reserve_later.ensures.kept.room m low have))
+    least_kept c.args.n _ _ c.args.later.now.items c.split_first_shelf.new.later.items (omega (arith, c.in_ok-split_first_shelf.ensures.spare, c.in_ok-reserve.ensures.len, c.in_ok-reserve.ensures.capacity)) (λ m low have. c.in_ok-split_first_shelf.ensures.room m low (c.in_ok-reserve_later.ensures.kept.room m low have))
 
 pub returns-clause-ok : goal.returns-clause-ok
 returns-clause-ok c =
-    fits_least c.args.n _ c.part_first.new.later.items (omega (arith, c.in_ok-reserve.ensures.ok)) (c.in_ok-part_first.ensures.room c.args.n (omega arith) c.in_ok-reserve_later.ensures.ok)
+    fits_least c.args.n _ c.split_first_shelf.new.later.items (omega (arith, c.in_ok-reserve.ensures.ok)) (c.in_ok-split_first_shelf.ensures.room c.args.n (omega arith) c.in_ok-reserve_later.ensures.ok)

@@ -5,12 +5,12 @@ use Rattle.product_decoder.specs.ZoneSteps.{flat, with_zones, zones_at}
 use Rattle.product_decoder.proofs.Nested.{verdict_lawful, verdict_passed, ascending_put}
 use Rattle.product_decoder.proofs.tracks.put_verdict.Goals as goal
 
-pub returns-then-not-is_lawful-clause-put : goal.returns-then-not-is_lawful-clause-put
-returns-then-not-is_lawful-clause-put c = verdict_passed c.args.issue.now c.args.verdict.now (flat c.args.steps.now.entries) c.args.zones.now (sym c.is_lawful.ensures ∙ c.if-not-is_lawful.true)
+pub returns-then-not-leaves_row-clause-put : goal.returns-then-not-leaves_row-clause-put
+returns-then-not-leaves_row-clause-put c = verdict_passed c.args.issue.now c.args.verdict.now (flat c.args.steps.now.entries) c.args.zones.now (sym c.leaves_row.ensures ∙ c.if-not-leaves_row.true)
 
 pub returns-clause-put : goal.returns-clause-put
 returns-clause-put c =
-    on_ok_weaker c.put_line.result (λ is. verdict_lawful c.args.issue.now c.args.verdict.now c.args.steps.now.entries c.put_line.new.steps.entries c.args.zones.now c.requires.ascending (sym c.is_lawful.ensures ∙ c.if-not-is_lawful.false) is) c.put_line.ensures
+    on_ok_weaker c.put_line.result (λ is. verdict_lawful c.args.issue.now c.args.verdict.now c.args.steps.now.entries c.put_line.new.steps.entries c.args.zones.now c.requires.ascending (sym c.leaves_row.ensures ∙ c.if-not-leaves_row.false) is) c.put_line.ensures
 
 pub returns-clause-ascending : goal.returns-clause-ascending
 returns-clause-ascending c =

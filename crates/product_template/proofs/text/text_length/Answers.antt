@@ -11,4 +11,4 @@ returns c =
     let bare : c.in_ok-bare.bare ≡ text_with c.args.settings.now c.args.class c.args.plan.now [] c.args.t c.args.edition = search rules in
     let bytes : c.len.result ≡ length (text_with c.args.settings.now c.args.class c.args.plan.now [] c.args.t c.args.edition) = search rules in
     let whole : _ ≡ length (text_of c.args.settings.now c.args.class c.args.plan.now c.args.t c.args.edition) = longer c.args.settings.now c.args.class c.args.plan.now c.args.t c.args.edition in
-    sum_told c.more.result _ _ _ c.more.ensures (omega (arith, said, bytes, whole))
+    sum_told c.checked_sum.result _ _ _ c.checked_sum.ensures (omega (arith, said, bytes, whole))

@@ -10,7 +10,7 @@ returns-in_err-reply-clause-halted g c =
     (λ begun e.
     let fed = c.loop-byte.invariant.fed begun e in
     let fits = c.line_at_end.ensures fed.0 fed.1 in
-    fed_halts g.A.Answers.answers g.A.Answers.lacks c.args.answers.now begun c.args.chunk.now (g.K.Sink.outflow c.args.output.now) c.loop-byte.answers c.loop-byte.byte-index fed.0 (g.K.Sink.outflow c.loop-byte.output)
+    fed_halts g.A.Answers.answers g.A.Answers.out_of_memory c.args.answers.now begun c.args.chunk.now (g.K.Sink.outflow c.args.output.now) c.loop-byte.answers c.loop-byte.byte-index fed.0 (g.K.Sink.outflow c.loop-byte.output)
     fed.2 c.loop-byte-test.true c.if-byte-eq10.true c.reply.new.answers (g.K.Sink.outflow c.reply.new.output) c.in_err-reply.field-0.0 (rw fits at c.in_err-reply.ensures.halted))
 
 pub loop-byte-preserved : goal.loop-byte-preserved
@@ -25,7 +25,7 @@ loop-byte-preserved g c =
                 let fits = w.line_at_end.ensures fed.0 fed.1 in (
                   [],
                   w.clear.ensures,
-                  fed_end g.A.Answers.answers g.A.Answers.lacks c.args.answers.now begun chunk (g.K.Sink.outflow c.args.output.now) c.loop-byte.answers at fed.0 (g.K.Sink.outflow c.loop-byte.output)
+                  fed_end g.A.Answers.answers g.A.Answers.out_of_memory c.args.answers.now begun chunk (g.K.Sink.outflow c.args.output.now) c.loop-byte.answers at fed.0 (g.K.Sink.outflow c.loop-byte.output)
                       fed.2 c.loop-byte-test.true w.if-byte-eq10.true w.reply.new.answers (g.K.Sink.outflow w.reply.new.output) (rw fits at w.in_ok-reply.ensures.told),
                 );
             steady = w.in_ok-reply.ensures.cause.steady (λ e. absurd (cc)) ∙ c.loop-byte.invariant.steady;
@@ -36,7 +36,7 @@ loop-byte-preserved g c =
                 let fed = c.loop-byte.invariant.fed begun e in (
                   fed.0 ++ get_or chunk at 0 ∷ [],
                   w.push.ensures fed.0 fed.1,
-                  fed_byte g.A.Answers.answers g.A.Answers.lacks c.args.answers.now begun chunk (g.K.Sink.outflow c.args.output.now) c.loop-byte.answers at fed.0 (g.K.Sink.outflow c.loop-byte.output)
+                  fed_byte g.A.Answers.answers g.A.Answers.out_of_memory c.args.answers.now begun chunk (g.K.Sink.outflow c.args.output.now) c.loop-byte.answers at fed.0 (g.K.Sink.outflow c.loop-byte.output)
                       fed.2 c.loop-byte-test.true w.if-byte-eq10.false,
                 );
             steady = c.loop-byte.invariant.steady;

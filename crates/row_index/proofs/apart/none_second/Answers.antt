@@ -14,7 +14,7 @@ loop-part-init c = record {
 pub loop-part-preserved : goal.loop-part-preserved
 loop-part-preserved c =
     let now = seats_of c.loop-part.spoken.rising.items c.loop-part.spoken.others.keys in
-    let next = seats_of c.speak_part.new.spoken.rising.items c.speak_part.new.spoken.others.keys in
+    let next = seats_of c.mark_part_seen.new.spoken.rising.items c.mark_part_seen.new.spoken.others.keys in
     record {
       first = spoke_next said_in c.args.parts.now c.loop-part.part-index c.part-item.result [] now next c.loop-part-test.true c.part-item.is (c.in_ok-first.ensures.first c.if-not-first.false) c.loop-part.invariant.first;
       free = c.in_ok-first.ensures.free;

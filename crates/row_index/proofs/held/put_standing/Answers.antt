@@ -8,9 +8,9 @@ use Rattle.row_index.proofs.held.put_standing.Goals as goal
 
 pub returns : goal.returns
 returns c =
-    on_ok_weaker c.restand.result
-    (λ is. run-made c.args.event.now c.args.life.now c.args.zones.now c.args.rows.now c.set.new.self c.args.standing.now.entries c.restand.new.standings.entries c.in_ok-befores.befores.items
+    on_ok_weaker c.replace_counted.result
+    (λ is. run-made c.args.event.now c.args.life.now c.args.zones.now c.args.rows.now c.set.new.self c.args.standing.now.entries c.replace_counted.new.standings.entries c.in_ok-befores.befores.items
     c.in_ok-befores.ensures.set c.in_ok-befores.ensures.before
     (is ∙ ap (λ (bs : List Before). restood bs (length c.args.zones.now) c.args.life.now c.args.standing.now.entries) c.deref.ensures.value)
     c.requires.own c.requires.rows)
-    c.restand.ensures
+    c.replace_counted.ensures

@@ -5,7 +5,7 @@ use Rattle.hazard_types.specs.declared.line.Row.{Row}
 use Rattle.event_life.specs.Products.{rows_of}
 use Rattle.product_frame.specs.declared.frame.Frame.{Frame}
 use Rattle.product_decoder.specs.ReaderModel.{Reading}
-use Rattle.row_index.specs.Verdicts.{spelled, AreFound}
+use Rattle.row_index.specs.Verdicts.{expand, AreFound}
 use Rattle.follow_core.specs.Frames.{products_heard}
 use Rattle.follow_core.proofs.Kept.{counted_kept, found_by, rows_kept}
 use Rattle.follow_core.proofs.follower.Follower.keep.Goals as goal
@@ -28,6 +28,6 @@ invariant_of-self-2 c =
     let more_is : more ≡ heard ++ s ∷ [] = c.push_reserved.ensures.items ∙ ap (λ (all : List (Snapshot Frame)). all ++ s ∷ []) c.in_ok-reserve.ensures.items in
     let held_is : ◌≡◌ {A = Option (List Row)} c.self.inside.rows (Some c.in-Some.rows) = sym c.take.ensures.value ∙ c.in-Some.is in (
       counted_kept office class c.self.inside.place heard more s c.self.invariant.0 more_is,
-      rows_kept office class c.self.inside.rows c.in-Some.rows c.in_ok-after.after heard more s c.args.frame.now (spelled c.args.judged.now) c.args.self.now
+      rows_kept office class c.self.inside.rows c.in-Some.rows c.in_ok-after.after heard more s c.args.frame.now (expand c.args.judged.now) c.args.self.now
           c.self.invariant.1 held_is c.self.view_is c.requires.judged c.in_ok-after.ensures c.of.ensures more_is,
     )

@@ -24,7 +24,7 @@ returns-in-New-clause-becomes g c =
     let kept : List ℕ → Type 0 = λ text. (kept : Reply) × Repeats s c.args.desk c.args.seq c.args.r.now kept × (text ≡ reply_text kept) in
     let offered = IsOffered s c.args.desk c.args.seq c.args.r.now c.args.reading in
     let broken = Refuses s c.args.desk c.args.seq c.args.r.now c.args.reading in
-    subst (λ (a : Answer). Becomes d.seen d.crash d.faults c.args.self.now c.append_prepared.new.self offered kept broken a) (sym c.beside.ensures.answer)
+    subst (λ (a : Answer). Becomes d.seen d.crash d.faults c.args.self.now c.append_prepared.new.self offered kept broken a) (sym c.with_prepared.ensures.answer)
     (becomes_on d.seen d.crash c.args.self.now _ refl c.prepare.ensures.state refl refl c.append_prepared.new.self d.faults (entered c.in-New.p) offered kept broken
     (ready_offered c.prepare.new.self s c.args.desk c.args.seq c.args.r.now c.args.reading c.in-New.p c.prepare.ensures.state ready) c.append_prepared.result c.append_prepared.ensures.becomes)
 
@@ -36,9 +36,9 @@ returns-in-New-clause-told g c =
     let kept : List ℕ → Type 0 = λ text. (kept : Reply) × Repeats s c.args.desk c.args.seq c.args.r.now kept × (text ≡ reply_text kept) in
     let offered = IsOffered s c.args.desk c.args.seq c.args.r.now c.args.reading in
     let broken = Refuses s c.args.desk c.args.seq c.args.r.now c.args.reading in
-    let told = option_map (λ t. t.value) c.beside.result.1 in
-    let beside = subst (λ (p : Readied). StandsBeside c.append_prepared.result p told) c.of-told.ensures c.beside.ensures.told in
-    subst (λ (a : Answer). Names d.seen d.crash d.faults c.args.self.now c.append_prepared.new.self offered kept broken a told) (sym c.beside.ensures.answer)
+    let told = option_map (λ t. t.value) c.with_prepared.result.1 in
+    let beside = subst (λ (p : Readied). StandsBeside c.append_prepared.result p told) c.of-told.ensures c.with_prepared.ensures.told in
+    subst (λ (a : Answer). Names d.seen d.crash d.faults c.args.self.now c.append_prepared.new.self offered kept broken a told) (sym c.with_prepared.ensures.answer)
     (names_on d.seen d.crash c.args.self.now _ refl c.prepare.ensures.state refl refl c.append_prepared.new.self d.faults c.in-New.p offered kept broken
     (ready_offered c.prepare.new.self s c.args.desk c.args.seq c.args.r.now c.args.reading c.in-New.p c.prepare.ensures.state ready) c.append_prepared.result told c.append_prepared.ensures.becomes beside)
 
@@ -62,7 +62,7 @@ returns-in-Again-clause-becomes g c =
     let s = c.args.self.now.office.state in
     let again = c.prepare.ensures.again (c.in-Ok.is ∙ ap (λ z. Ok z) c.in-Again.is) in
     becomes_again d.seen d.crash c.args.self.now _ refl c.prepare.ensures.state refl refl d.faults (IsOffered s c.args.desk c.args.seq c.args.r.now c.args.reading) (Refuses s c.args.desk c.args.seq c.args.r.now c.args.reading)
-    c.args.desk c.args.seq c.args.r.now again.0 again.1 (at_rest d.seen d.crash m.are_crashes c.args.self.now c.a_crash_leaves_the_history.ensures (λ change. ⊥)) c.again.result c.again.ensures
+    c.args.desk c.args.seq c.args.r.now again.0 again.1 (at_rest d.seen d.crash m.are_crashes c.args.self.now c.a_crash_leaves_the_history.ensures (λ change. ⊥)) c.repeated_answer.result c.repeated_answer.ensures
 
 pub returns-in-Again-clause-any_moment : goal.returns-in-Again-clause-any_moment
 returns-in-Again-clause-any_moment g c =

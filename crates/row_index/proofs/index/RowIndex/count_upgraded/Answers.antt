@@ -19,13 +19,13 @@ loop-zone-preserved c =
     record {
       count = search rules;
       judged = λ all serves. every_next zones (λ (z : Place). IsJudgedAt rows t all z c.args.verdict.now) i zone c.loop-zone-test.true c.zone-item.is
-          (judged_same rows t all line zone other c.args.verdict.now c.requires.line (c.find_alike.ensures (search rules)) c.verdict_at-other.ensures.found
+          (judged_same rows t all line zone other c.args.verdict.now c.requires.line (c.have_same_findings.ensures (search rules)) c.verdict_at-other.ensures.found
           (c.verdict_at-other.ensures.breach all (every_at zones (Serves rows t all c.args.asking.now.changed.now line) i zone c.loop-zone-test.true c.zone-item.is serves)))
           (c.loop-zone.invariant.judged all serves);
     }
 
-pub returns-then-not-find_alike-clause-judged : goal.returns-then-not-find_alike-clause-judged
-returns-then-not-find_alike-clause-judged c = λ all serves.
+pub returns-then-not-have_same_findings-clause-judged : goal.returns-then-not-have_same_findings-clause-judged
+returns-then-not-have_same_findings-clause-judged c = λ all serves.
     subst (λ (n : ℕ). AllByRecursion (λ (z : Place). IsJudgedAt c.args.self.now c.args.asking.now.t all z c.args.verdict.now) (take n c.args.zones.now)) (sym c.loop-zone.invariant.count)
     (c.loop-zone.invariant.judged all serves)
 

@@ -15,7 +15,7 @@ loop-line-preserved c =
     let i = c.loop-line.line-index in
     let line = c.line-item.result in
     let before = seats_of c.loop-line.spoken.rising.items c.loop-line.spoken.others.keys in
-    let next = seats_of c.speak.new.self.rising.items c.speak.new.self.others.keys in
+    let next = seats_of c.mark_seen.new.self.rising.items c.mark_seen.new.self.others.keys in
     let second = c.in_ok-second.ensures.second ∙ second_told before (take i lines) line c.loop-line.invariant.spoken in
     record {
       rows = counted_next c.args.self.now c.args.t lines (values_of c.loop-line.counted.entries) (values_of c.count_row.new.seated.entries) (put_but_upgrades c.args.self.now c.args.t [] lines []) i line c.in_ok-second.second c.may_count-counts.result c.row_after.result c.loop-line-test.true c.line-item.is second c.may_count-counts.ensures c.row_after.ensures c.in_ok-count_row.ensures.rows c.loop-line.invariant.rows;

@@ -16,7 +16,7 @@ loop-line-preserved c =
     let line = c.line-item.result in
     let earlier = take i lines in
     let before = seats_of c.loop-line.spoken.rising.items c.loop-line.spoken.others.keys in
-    let next = seats_of c.speak.new.self.rising.items c.speak.new.self.others.keys in
+    let next = seats_of c.mark_seen.new.self.rising.items c.mark_seen.new.self.others.keys in
     let second = c.in_ok-second.ensures.second ∙ second_told before earlier line c.loop-line.invariant.spoken in
     let breach = c.breach_in-breach.ensures lines earlier (λ h. c.in_ok-changed.ensures.changed (any_upgrade lines i line c.loop-line-test.true c.line-item.is h)) (λ h. over_at c.args.self.now c.args.t lines (values_of c.in_ok-changed.changed.higher.entries) i line c.loop-line-test.true c.line-item.is h (c.in_ok-changed.ensures.over (any_upgrade lines i line c.loop-line-test.true c.line-item.is h))) second in
     record {

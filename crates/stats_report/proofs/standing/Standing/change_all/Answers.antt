@@ -1,6 +1,6 @@
 use Rattle.std.proofs.Common.{List, subst, arith}
 use Rattle.std.proofs.lemmas.List.{take_all}
-use Rattle.row_index.specs.Verdicts.{spelled}
+use Rattle.row_index.specs.Verdicts.{expand}
 use Rattle.row_index.specs.declared.verdicts.Run.{Run}
 use Rattle.stats_report.specs.Spells.{kept_of}
 use Rattle.stats_report.specs.Summed.{TakesLines}
@@ -15,4 +15,4 @@ loop-run-preserved c =
 pub returns : goal.returns
 returns c =
     let all = take_all c.loop-run.run-index c.args.runs.now (omega (arith, c.loop-run-test.false)) in
-    subst (λ (rs : List Run). TakesLines c.args.moment.now (spelled rs) (kept_of c.args.self.now) (kept_of c.loop-run.self)) all c.loop-run.invariant
+    subst (λ (rs : List Run). TakesLines c.args.moment.now (expand rs) (kept_of c.args.self.now) (kept_of c.loop-run.self)) all c.loop-run.invariant

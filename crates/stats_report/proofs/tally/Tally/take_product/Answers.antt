@@ -5,7 +5,7 @@ use Rattle.hazard_types.specs.declared.line.Row.{Row}
 use Rattle.event_life.specs.Products.{Product, lawful_of, put_all}
 use Rattle.product_decoder.specs.Decoded.{decoded_of}
 use Rattle.product_decoder.specs.ReaderModel.{product_of}
-use Rattle.row_index.specs.Verdicts.{spelled}
+use Rattle.row_index.specs.Verdicts.{expand}
 use Rattle.row_index.specs.declared.verdicts.Run.{Run}
 use Rattle.stats_report.specs.declared.tally.Tally.{Tally}
 use Rattle.stats_report.proofs.Keeping.{found_out, takes_told}
@@ -23,6 +23,6 @@ returns c =
     let runs : List Run = c.as_slice-runs.result.now in
     let new : Tally = record { rows = c.in_ok-self.field-0; latest = c.max-self.result; standing = c.change_all.new.self; count = self.count; faults = self.faults } in
     let latest : c.max-self.result ≡ max self.latest p.issue = omega (arith, c.max-self.ensures, c.get.ensures.value) in
-    let rows = c.in_ok-self.ensures ∙ ap (λ (rows : List Row). put_all rows p.issue (lawful_of (spelled runs)) rows) c.replace-rows.ensures.value in
-    on_ok_weaker c.change_all.result (λ takes. takes_told asked.minute p self new (spelled runs) (ap (λ (rs : List Run). spelled rs) c.as_slice-runs.ensures ∙ c.in_ok-found.ensures.told)
+    let rows = c.in_ok-self.ensures ∙ ap (λ (rows : List Row). put_all rows p.issue (lawful_of (expand runs)) rows) c.replace-rows.ensures.value in
+    on_ok_weaker c.change_all.result (λ takes. takes_told asked.minute p self new (expand runs) (ap (λ (rs : List Run). expand rs) c.as_slice-runs.ensures ∙ c.in_ok-found.ensures.told)
     rows latest takes (refl, refl)) c.change_all.ensures

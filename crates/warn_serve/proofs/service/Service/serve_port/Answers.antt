@@ -34,25 +34,25 @@ pub serve_shares-end-requires-clause-fresh : goal.serve_shares-end-requires-clau
 serve_shares-end-requires-clause-fresh g c κs within =
     let door = g.P.Door.Door in
     let state = door.state in
-    let hired = c.hire-hired.result.0.items in
-    all_of hired hired refl (λ w. IsFresh c.args.pass.now w.pass (state w.door) w.share c.args.connections) (λ w. IsFresh c.hire-hired.new.pass w.pass (state w.door) w.share 1000000)
-    (λ w f. record { is_share = still_share c.args.pass.now c.hire-hired.new.pass w.pass c.hire-hired.ensures.kept f.is_share; unused = f.unused; few = omega (arith, f.few, c.requires.connections.1) })
-    c.hire-hired.ensures.fresh
+    let hired = c.share_out-hired.result.0.items in
+    all_of hired hired refl (λ w. IsFresh c.args.pass.now w.pass (state w.door) w.share c.args.connections) (λ w. IsFresh c.share_out-hired.new.pass w.pass (state w.door) w.share 1000000)
+    (λ w f. record { is_share = still_share c.args.pass.now c.share_out-hired.new.pass w.pass c.share_out-hired.ensures.kept f.is_share; unused = f.unused; few = omega (arith, f.few, c.requires.connections.1) })
+    c.share_out-hired.ensures.fresh
 
 pub returns-clause-gathered : goal.returns-clause-gathered
 returns-clause-gathered g c =
     let port = g.P.Port.state in
-    let hired = c.hire-hired.result.0.items in
+    let hired = c.share_out-hired.result.0.items in
     let given = map (λ w. w.share) hired in
     let first = port c.args.port.now in
     let heard = port c.listen.new.self in
-    let back = takes_on first heard (port c.hire-hired.new.port) [] [] (takes_same first heard c.listen.ensures.returned c.listen.ensures.links c.listen.ensures.later) c.hire-hired.ensures.port in
+    let back = takes_on first heard (port c.share_out-hired.new.port) [] [] (takes_same first heard c.listen.ensures.returned c.listen.ensures.links c.listen.ensures.later) c.share_out-hired.ensures.port in
     let same : heard.faults ≡ first.faults = c.in-Ok.ensures.counted in
-    let steady : (port c.hire-hired.new.port).faults ≤ first.faults = omega (arith, same, c.hire-hired.ensures.steady) in
+    let steady : (port c.share_out-hired.new.port).faults ≤ first.faults = omega (arith, same, c.share_out-hired.ensures.steady) in
     let count : vec_len c.into_vec-doors.result ≡ c.args.workers = search rules in (
       given,
-      gathered_short (AnswersCall (g.C.Clock.gives c.args.self.now.clock.now)) (LosesCall (g.C.Clock.gives c.args.self.now.clock.now)) given (total_of given) c.hire-hired.result.1 c.args.connections first (port c.hire-hired.new.port) (port c.serve_shares-end.new.port) c.args.pass.now c.hire-hired.new.pass c.serve_shares-end.new.pass c.serve_shares-end.result c.short_of.result
-          c.serve_shares-end.ensures.gathered c.hire-hired.ensures.kept back steady c.hire-hired.ensures.total c.short_of.ensures,
-      shared_out c.args.workers c.args.connections c.hire-hired.result.1 given c.serve_shares-end.result c.short_of.result c.hire-hired.ensures.total
-          (subst (λ (n : ℕ). c.hire-hired.result.1 ≡ 0 → with_links given ≡ with_links (shares_of n c.args.connections)) count c.hire-hired.ensures.even) c.short_of.ensures,
+      gathered_short (AnswersCall (g.C.Clock.gives c.args.self.now.clock.now)) (LosesCall (g.C.Clock.gives c.args.self.now.clock.now)) given (total_of given) c.share_out-hired.result.1 c.args.connections first (port c.share_out-hired.new.port) (port c.serve_shares-end.new.port) c.args.pass.now c.share_out-hired.new.pass c.serve_shares-end.new.pass c.serve_shares-end.result c.short_of.result
+          c.serve_shares-end.ensures.gathered c.share_out-hired.ensures.kept back steady c.share_out-hired.ensures.total c.short_of.ensures,
+      shared_out c.args.workers c.args.connections c.share_out-hired.result.1 given c.serve_shares-end.result c.short_of.result c.share_out-hired.ensures.total
+          (subst (λ (n : ℕ). c.share_out-hired.result.1 ≡ 0 → with_links given ≡ with_links (shares_of n c.args.connections)) count c.share_out-hired.ensures.even) c.short_of.ensures,
     )

@@ -18,7 +18,7 @@ use Rattle.worked_rows.proofs.board.days.Day.correct.Goals as goal
 pub plan_correction-requires : goal.plan_correction-requires
 plan_correction-requires c =
     let stands : Stands c.self.inside.board.rows c.self.inside.numbers.counts c.args.t =
-    c.what_stands_stands_later.ensures c.self.inside.board.rows c.self.inside.numbers.counts c.self.inside.last c.args.t (rw (ap (λ (d : Standing). d.last) c.self.view_is) c.requires.later) c.self.invariant.0 in
+    c.standing_conditions_persist.ensures c.self.inside.board.rows c.self.inside.numbers.counts c.self.inside.last c.args.t (rw (ap (λ (d : Standing). d.last) c.self.view_is) c.requires.later) c.self.invariant.0 in
     let sent_is : c.index-products-place.result ≡ get_or c.self.inside.products c.args.place c.index-products-place.result =
     c.index-products-place.is ∙ ap (λ (xs : List Sent). get_or xs c.args.place c.index-products-place.result) c.as_slice-products.ensures in
     let before : AllPairs IsApart c.index-products-place.result.lines = subst (λ (s : Sent). AllPairs IsApart s.lines) (sym sent_is)
@@ -30,7 +30,7 @@ returns-clause-written c =
     let rows = c.self.inside.board.rows in
     let counts = c.self.inside.numbers.counts in
     let stands : Stands c.self.inside.board.rows c.self.inside.numbers.counts c.args.t =
-    c.what_stands_stands_later.ensures c.self.inside.board.rows c.self.inside.numbers.counts c.self.inside.last c.args.t (rw (ap (λ (d : Standing). d.last) c.self.view_is) c.requires.later) c.self.invariant.0 in
+    c.standing_conditions_persist.ensures c.self.inside.board.rows c.self.inside.numbers.counts c.self.inside.last c.args.t (rw (ap (λ (d : Standing). d.last) c.self.view_is) c.requires.later) c.self.invariant.0 in
     can_be_written (corrected_lines rows c.args.t c.index-products-place.result.lines) c.in_ok-correction.correction.segments c.in_ok-correction.ensures.plan.segments
     (c.lines_have_four_digits.ensures.corrected rows counts c.args.t c.index-products-place.result.lines stands.numbered stands.digits)
 
@@ -41,7 +41,7 @@ invariant_of-self-2 c =
     let sent : Sent = c.index-products-place.result in
     let lines = corrected_lines rows c.args.t sent.lines in
     let stands : Stands c.self.inside.board.rows c.self.inside.numbers.counts c.args.t =
-    c.what_stands_stands_later.ensures c.self.inside.board.rows c.self.inside.numbers.counts c.self.inside.last c.args.t (rw (ap (λ (d : Standing). d.last) c.self.view_is) c.requires.later) c.self.invariant.0 in
+    c.standing_conditions_persist.ensures c.self.inside.board.rows c.self.inside.numbers.counts c.self.inside.last c.args.t (rw (ap (λ (d : Standing). d.last) c.self.view_is) c.requires.later) c.self.invariant.0 in
     let sent_is : c.index-products-place.result ≡ get_or c.self.inside.products c.args.place c.index-products-place.result =
     c.index-products-place.is ∙ ap (λ (xs : List Sent). get_or xs c.args.place c.index-products-place.result) c.as_slice-products.ensures in
     let before : AllPairs IsApart c.index-products-place.result.lines = subst (λ (s : Sent). AllPairs IsApart s.lines) (sym sent_is)
