@@ -38,7 +38,7 @@ impl Class {
     }
 
     /// Returns the class with this letter, or `None` if no class has it.
-    pub fn at(text: &[u8]) -> Option<Self>
+    pub fn from_code(text: &[u8]) -> Option<Self>
         ensures { result ≡ value_beside class_rows text.now }
     {
         find(&classes(), text)
@@ -65,7 +65,7 @@ impl Action {
     }
 
     /// Returns the action with these three letters, or `None` if no action has them.
-    pub fn at(text: &[u8]) -> Option<Self>
+    pub fn from_code(text: &[u8]) -> Option<Self>
         ensures { result ≡ value_beside action_rows text.now }
     {
         find(&actions(), text)
@@ -88,7 +88,7 @@ impl Severity {
     }
 
     /// Returns the severity with this character, or `None` if no severity has it.
-    pub fn at(text: &[u8]) -> Option<Self>
+    pub fn from_code(text: &[u8]) -> Option<Self>
         ensures { result ≡ value_beside severity_rows text.now }
     {
         find(&severities(), text)
@@ -109,7 +109,7 @@ impl Status {
     }
 
     /// Returns the status with these two letters, or `None` if no status has them.
-    pub fn at(text: &[u8]) -> Option<Self>
+    pub fn from_code(text: &[u8]) -> Option<Self>
         ensures { result ≡ value_beside status_rows text.now }
     {
         find(&statuses(), text)

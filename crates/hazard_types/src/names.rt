@@ -19,7 +19,7 @@ use std::alloc::Global;
 
 impl Sig {
     /// Returns the significance with this letter, or `None` if no significance has it.
-    pub fn at(letter: u8) -> Option<Self>
+    pub fn from_letter(letter: u8) -> Option<Self>
         ensures { result ≡ sig_at letter }
     {
         match letter {
@@ -37,7 +37,7 @@ impl Sig {
 
 impl Kind {
     /// Returns the kind with this letter, or `None` if it is neither `C` nor `Z`.
-    pub fn at(letter: u8) -> Option<Self>
+    pub fn from_letter(letter: u8) -> Option<Self>
         ensures { result ≡ kind_at letter }
     {
         match letter {
@@ -76,7 +76,7 @@ impl Category {
     }
 
     /// Returns the category with these three letters, or `None` if no category has them.
-    pub fn at(text: &[u8]) -> Option<Self>
+    pub fn from_code(text: &[u8]) -> Option<Self>
         ensures { result ≡ value_beside category_rows text.now }
     {
         find(&categories(), text)
@@ -99,7 +99,7 @@ pub fn zone_in(text: &[u8]) -> Option<Zone>
     let number = 100 * u16::from(*hundreds - b'0')
         + 10 * u16::from(*tens - b'0')
         + u16::from(*ones - b'0');
-    let kind = Kind::at(*kind)?;
+    let kind = Kind::from_letter(*kind)?;
     Zone::new([*first, *second], kind, number)
 }
 
@@ -133,7 +133,7 @@ pub fn hazard_in(text: &[u8]) -> Option<Hazard>
         return None;
     };
     let phen = Phen::new([*first, *second])?;
-    let sig = Sig::at(*sig)?;
+    let sig = Sig::from_letter(*sig)?;
     Some(Hazard { phen, sig })
 }
 

@@ -61,12 +61,12 @@ fn values_of(bytes: &[u8]) -> Option<Flood>
     }
     values(
         location_in(&bytes[LOCATION]),
-        Severity::at(&bytes[SEVERITY..SEVERITY + 1]),
+        Severity::from_code(&bytes[SEVERITY..SEVERITY + 1]),
         cause_of(&bytes[CAUSE]),
         time_in(&bytes[BEGIN]),
         time_in(&bytes[CREST]),
         time_in(&bytes[END]),
-        Status::at(&bytes[STATUS]),
+        Status::from_code(&bytes[STATUS]),
     )
 }
 

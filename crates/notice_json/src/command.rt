@@ -35,7 +35,7 @@ pub struct Command {
 
 impl Watch {
     /// Returns the watch with this code, `TO.A` or `SV.A`.
-    pub(crate) fn at(code: &str) -> Option<Watch>
+    pub(crate) fn from_code(code: &str) -> Option<Watch>
         ensures { result ≡ watch_at code.now }
     {
         match code {

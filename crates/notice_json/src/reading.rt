@@ -44,14 +44,14 @@ fn at_field(alloc: Global, value: &Value) -> Result<Minute, Or<NoticeRefusal>>
 fn verb_field(alloc: Global, value: &Value) -> Result<Verb, Or<NoticeRefusal>>
     ensures { Gives result (verb_field (view value.now)) }
 {
-    let verb = text_at(value, "do").and_then(|word| Verb::at(word));
+    let verb = text_at(value, "do").and_then(|word| Verb::from_word(word));
     given(alloc, verb, "do")
 }
 
 fn watch_field(alloc: Global, value: &Value) -> Result<Watch, Or<NoticeRefusal>>
     ensures { Gives result (watch_field (view value.now)) }
 {
-    let watch = text_at(value, "hazard").and_then(|code| Watch::at(code));
+    let watch = text_at(value, "hazard").and_then(|code| Watch::from_code(code));
     given(alloc, watch, "hazard")
 }
 

@@ -22,7 +22,7 @@ fn is_common(key: &str) -> bool
 
 impl Verb {
     /// Returns the verb that the word is.
-    pub fn at(word: &str) -> Option<Verb>
+    pub fn from_word(word: &str) -> Option<Verb>
         ensures { result ≡ verb_at word.now }
     {
         match word {

@@ -130,7 +130,7 @@ fn severity_in(value: &Value) -> Option<Severity>
     ensures { result ≡ severity_in (view value.now) }
 {
     let text = text_at(value, "severity")?;
-    Severity::at(text.as_bytes())
+    Severity::from_code(text.as_bytes())
 }
 
 /// Returns the member `cause` if it is one of the causes that a request may name.
@@ -151,7 +151,7 @@ fn status_in(value: &Value) -> Option<Status>
     ensures { result ≡ status_in (view value.now) }
 {
     let text = text_at(value, "status")?;
-    Status::at(text.as_bytes())
+    Status::from_code(text.as_bytes())
 }
 
 #[tactic(auto, unfolding(crate::specs::Fields::values_in))]

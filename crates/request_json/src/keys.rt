@@ -43,7 +43,7 @@ pub enum Keys {
 
 impl Verb {
     /// Returns the verb that the word is, or `None` if it is not one.
-    pub fn at(word: &str) -> Option<Verb>
+    pub fn from_word(word: &str) -> Option<Verb>
         ensures { result ≡ verb_at word.now }
     {
         match word {

@@ -60,7 +60,7 @@ fn verb_of(value: &Value) -> Option<Verb>
     ensures { result ≡ option_and_then verb_at (text_at (codes "do") (view value.now)) }
 {
     let word = text_at(value, "do")?;
-    Verb::at(word)
+    Verb::from_word(word)
 }
 
 fn verb_field(alloc: Global, value: &Value) -> Result<Verb, Or<Refusal>>
@@ -75,7 +75,7 @@ fn category_of(value: &Value) -> Option<Category>
         (text_at (codes "category") (view value.now)) }
 {
     let text = text_at(value, "category")?;
-    Category::at(text.as_bytes())
+    Category::from_code(text.as_bytes())
 }
 
 fn category_field(alloc: Global, value: &Value) -> Result<Category, Or<Refusal>>

@@ -77,7 +77,7 @@ fn three_of(x: u8, y: u8, z: u8) -> Option<u16>
 fn full_code(text: &[u8; 6]) -> Option<Zone>
     ensures { result ≡ full_code text.now }
 {
-    let kind = Kind::at(text[2])?;
+    let kind = Kind::from_letter(text[2])?;
     let number = three_of(text[3], text[4], text[5])?;
     Zone::new([text[0], text[1]], kind, number)
 }

@@ -98,8 +98,8 @@ fn values_of(bytes: &[u8]) -> Option<Vtec>
         return None;
     }
     values(
-        Class::at(&bytes[CLASS..CLASS + 1]),
-        Action::at(&bytes[ACTION]),
+        Class::from_code(&bytes[CLASS..CLASS + 1]),
+        Action::from_code(&bytes[ACTION]),
         office_of(&bytes[OFFICE]),
         phenomenon_of(&bytes[PHENOMENON]),
         significance_in(&bytes[SIGNIFICANCE..SIGNIFICANCE + 1]),

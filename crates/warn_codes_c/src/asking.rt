@@ -160,7 +160,7 @@ pub extern "C" fn warn_codes_c_ask(
     ensures exact { Answers (answer asked.now stream.now) result rows.old rows.new needed.old
         needed.new }
 {
-    let Some(class) = Class::at(&[asked.class]) else {
+    let Some(class) = Class::from_code(&[asked.class]) else {
         return BAD_ARGUMENT;
     };
     let office = asked.office;

@@ -78,7 +78,7 @@ pub extern "C" fn warn_codes_c_open(
     if reader.is_open == 1 {
         return BAD_ARGUMENT;
     }
-    let Some(class) = Class::at(&[class]) else {
+    let Some(class) = Class::from_code(&[class]) else {
         return BAD_ARGUMENT;
     };
     if !is_office(office) {

@@ -79,8 +79,8 @@ fn vtec_of(fields: &VtecFields) -> Option<Vtec>
 {
     let action = fields.action;
     vtec_by(
-        Class::at(&[fields.class]),
-        Action::at(&action),
+        Class::from_code(&[fields.class]),
+        Action::from_code(&action),
         office_of(fields.office),
         Phen::new(fields.phenomenon),
         significance_in(&[fields.significance]),
@@ -131,12 +131,12 @@ fn flood_of(fields: &FloodFields) -> Option<Flood>
     let status = fields.record_status;
     flood_by(
         location_of(fields.location),
-        Severity::at(&[fields.severity]),
+        Severity::from_code(&[fields.severity]),
         Cause::new(fields.cause),
         time_of(fields.begin),
         time_of(fields.crest),
         time_of(fields.end),
-        Status::at(&status),
+        Status::from_code(&status),
     )
 }
 
