@@ -1,7 +1,7 @@
 -- A request has one answer: plans are determined, and the ways of answering exclude each other.
 use Rattle.std.proofs.Common.{◌≡◌, ◌∙◌, ◌==◌, inl, inr, ℕ, ℤ, pos, List, Bool, true, false, refl, sym, ap, subst, cond, Option, None, Some}
 use Rattle.std.proofs.lemmas.Bool.{and_from, both_ways, eq-eqb}
-use Rattle.hazard_types.proofs.Equality.{request_itself}
+use Rattle.office_types.proofs.Equality.{request_itself}
 use Rattle.hazard_types.specs.declared.codes.Category.{Category}
 use Rattle.hazard_types.specs.declared.line.Line.{Line}
 use Rattle.hazard_types.specs.declared.line.Segment.{Segment}

@@ -11,7 +11,7 @@ use Rattle.office_types.specs.declared.request.Edition.TheVariants.{One}
 use Rattle.office_types.specs.declared.request.Entry.{Entry}
 use Rattle.office_types.specs.declared.request.Reply.{Reply}
 use Rattle.office_types.specs.declared.request.Request.{Request}
-use Rattle.hazard_types.proofs.Equality.{request_itself}
+use Rattle.office_types.proofs.Equality.{request_itself}
 use Rattle.desk_settings.specs.declared.settings.Settings.{Settings}
 use Rattle.request_json.specs.Replies.{reply_text}
 use Rattle.office_core.specs.Histories.{Entered, IsNext, LeadFrom}
