@@ -6,7 +6,7 @@ use Rattle.std.specs.Ordering.{ordering_then}
 use Rattle.std.proofs.lemmas.Bool.{false_from_ne_true}
 use Rattle.std.proofs.lemmas.Cmp.{tied_itself}
 use Rattle.hazard_types.specs.Hazards.{facts_of}
-use Rattle.hazard_types.specs.Names.{is_flood}
+use Rattle.hazard_types.specs.Names.{is_fl_phenomenon}
 use Rattle.hazard_types.specs.Orders.{by_event}
 use Rattle.hazard_types.specs.Places.{Place, by_place}
 use Rattle.hazard_types.specs.Same.{same_zone}
@@ -152,7 +152,7 @@ unfolding names
 named_too c t ps zones rows touched =
     filtered_alike (goes_on_beside c t ps) (λ (r : Row). names zones r && goes_on_beside c t ps r)
     (λ r.
-    asked_twice (list_any (touches r.zone) ps) (is_live t r) (follows c (facts_of r.event.hazard)) (not (is_flood r.event.hazard)) (not (list_any (speaks r.event r.zone) ps))
+    asked_twice (list_any (touches r.zone) ps) (is_live t r) (follows c (facts_of r.event.hazard)) (not (is_fl_phenomenon r.event.hazard)) (not (list_any (speaks r.event r.zone) ps))
     ∙ ap (λ (b : Bool). b && goes_on_beside c t ps r) (sym (touched r.zone))) rows
 
 -- the rows of the touched zones say what all rows do

@@ -9,7 +9,7 @@ use Rattle.hazard_types.specs.declared.line.Row.{Row}
 use Rattle.event_life.specs.declared.life.Life.{Life}
 use Rattle.event_life.specs.Products.{by_key, life_of, placed, put, put_all, row_after, row_at, rows_after}
 use Rattle.event_life.specs.Reordered.{are_lawful}
-use Rattle.event_life.specs.Table.{flood_after, left_of_life, life_after}
+use Rattle.event_life.specs.Table.{flood_after, life_after_line, life_after_lawful_line}
 use Rattle.event_life.proofs.LawfulLemmas.{touches}
 use Rattle.hazard_board.specs.Consistent.{EachToLater}
 use Rattle.action_planner.proofs.LawfulLists.{Has, all_has, every}
@@ -70,7 +70,7 @@ flood_new : (old : Option Flood) (f : Flood) → flood_after old (Some f) ≡ So
 flood_new None f = refl
 flood_new (Some g) f = refl
 
-left_flood : (a : Action) (life : Life) (line : Line) (t : ℕ) (f : Flood) → line.flood ≡ Some f → (left_of_life a life line t).flood ≡ Some f
+left_flood : (a : Action) (life : Life) (line : Line) (t : ℕ) (f : Flood) → line.flood ≡ Some f → (life_after_line a life line t).flood ≡ Some f
 left_flood Con life line t f h = ap (flood_after life.flood) h ∙ flood_new life.flood f
 left_flood Cor life line t f h = ap (flood_after life.flood) h ∙ flood_new life.flood f
 left_flood Ext life line t f h = ap (flood_after life.flood) h ∙ flood_new life.flood f
@@ -79,8 +79,8 @@ left_flood Exp life line t f h = ap (flood_after life.flood) h ∙ flood_new lif
 left_flood Upg life line t f h = ap (flood_after life.flood) h ∙ flood_new life.flood f
 left_flood _ life line t f h = h
 
-after_flood : (o : Option Row) (line : Line) (t : ℕ) (f : Flood) → line.flood ≡ Some f → (life_after (option_map life_of o) line t).flood ≡ Some f
-unfolding life_after
+after_flood : (o : Option Row) (line : Line) (t : ℕ) (f : Flood) → line.flood ≡ Some f → (life_after_lawful_line (option_map life_of o) line t).flood ≡ Some f
+unfolding life_after_lawful_line
 after_flood None line t f h = h
 after_flood (Some row) line t f h = left_flood line.action (life_of row) line t f h
 

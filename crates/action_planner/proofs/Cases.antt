@@ -4,7 +4,7 @@ use Rattle.std.proofs.lemmas.Bool.Decides.{Decides-and, Decides-like, Decides-no
 use Rattle.std.specs.Bool.{Decides}
 use Rattle.std.specs.List.{All, AllByRecursion, Any, Contains}
 use Rattle.std.specs.List.Sorted.{IsStrictlySortedBy}
-use Rattle.hazard_types.specs.Names.{is_flood}
+use Rattle.hazard_types.specs.Names.{is_fl_phenomenon}
 use Rattle.hazard_types.specs.Places.{Place}
 use Rattle.hazard_types.specs.declared.codes.Action.TheVariants.{Con}
 use Rattle.hazard_types.specs.declared.codes.Category.{Category}
@@ -87,7 +87,7 @@ module _ (rows : List Row) (t : ℕ) (all : List Placed) (fit : AllByRecursion (
       (Decides-and _ _ (live_Decides t row)
       (Decides-and _ _ (Decides-and _ _ (Decides-and _ _
       (follows_Decides c row.event.hazard)
-      (Decides-not (is_flood row.event.hazard) (flood_Decides row.event.hazard)))
+      (Decides-not (is_fl_phenomenon row.event.hazard) (flood_Decides row.event.hazard)))
       (any_Decides (touches row.zone) (λ (p : Placed). Contains (zones_of p.intent) row.zone) (touches_Decides row.zone) all))
       (none_Decides (speaks row.event row.zone) (λ (p : Placed). SpeaksOf p row.event row.zone) (speaks_Decides row.event row.zone) all)))
 

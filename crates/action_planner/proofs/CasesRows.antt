@@ -20,7 +20,7 @@ use Rattle.event_life.specs.Higher.{outranks}
 use Rattle.event_life.specs.Periods.{ends_after}
 use Rattle.event_life.specs.Products.{has_rows, row_at}
 use Rattle.action_planner.specs.Placed.{Placed, zones_of, is_opening, is_opening_target, speaks}
-use Rattle.action_planner.specs.Lines.{minute_of, overlays, is_left, is_overlaid, joined_row, period_by_put, puts_or_finishes, row_by_put, rows_by_intent, rows_by_puts, rows_left, unless_ended}
+use Rattle.action_planner.specs.Lines.{minute_of, overlays, is_left, is_overlaid, joined_row, period_by_put, puts_or_finishes, row_after_put, rows_by_intent, rows_by_puts, rows_left, unless_ended}
 use Rattle.action_planner.specs.Cases.{BeginsIn, IsLeftBy, IsLive, IsUnderHigher, Overlap, SpeaksOf, StandsAfter, Remains}
 use Rattle.action_planner.proofs.LawfulLists.{Has, all_has, all_weaker, any_from, any_has, contains_from, has_any, has_filter, has_left, has_map, has_right, has_split, kept, map_has, none_from, none_of}
 use Rattle.action_planner.proofs.LawfulPlaced.{IsFit}
@@ -73,7 +73,7 @@ module _ (rows : List Row) (t : ℕ) (all : List Placed) where
   end_by part None = refl
   end_by part (Some row) = refl
 
-  by_put_from : (p : Placed) (part : PutPart) → p.intent ≡ Put part → (is_opening_target part.target ≡ true → has_rows rows p.event ≡ false) → (z : Place) → Has part.zones z → IsLeftBy rows t (row_by_put rows t p.event part z) p
+  by_put_from : (p : Placed) (part : PutPart) → p.intent ≡ Put part → (is_opening_target part.target ≡ true → has_rows rows p.event ≡ false) → (z : Place) → Has part.zones z → IsLeftBy rows t (row_after_put rows t p.event part z) p
   by_put_from p part i new z h =
       let zones : part.zones ≡ zones_of p.intent = ap zones_of (sym i) in
       let begins = begin_from part (row_at rows p.event z) in
@@ -87,7 +87,7 @@ module _ (rows : List Row) (t : ℕ) (all : List Placed) where
 
   by_intent_from : (p : Placed) (i : Intent) → p.intent ≡ i → (is_opening i ≡ true → has_rows rows p.event ≡ false) → (row : Row) → Has (rows_by_intent rows t p i) row → IsLeftBy rows t row p
   by_intent_from p (Put part) e new row h =
-      let m = has_map (row_by_put rows t p.event part) part.zones row h in
+      let m = has_map (row_after_put rows t p.event part) part.zones row h in
       subst (λ (r : Row). IsLeftBy rows t r p) m.2 (by_put_from p part e new m.0 m.1)
   by_intent_from p (Finish part) e new row h = absurd h
   by_intent_from p (Restate part) e new row h = absurd h
@@ -107,7 +107,7 @@ module _ (rows : List Row) (t : ℕ) (all : List Placed) where
   abbrev IsLike : Row → Row → Type 0
   IsLike r s = (r.event ≡ s.event) × (r.zone ≡ s.zone) × (r.period ≡ s.period) × (r.ended ≡ false)
 
-  by_put_like : (p : Placed) (row : Row) (l : IsLeftBy rows t row p) → (is_opening p.intent ≡ true → has_rows rows p.event ≡ false) → IsLike (row_by_put rows t p.event l.part row.zone) row
+  by_put_like : (p : Placed) (row : Row) (l : IsLeftBy rows t row p) → (is_opening p.intent ≡ true → has_rows rows p.event ≡ false) → IsLike (row_after_put rows t p.event l.part row.zone) row
   by_put_like p row l new =
       let opening : is_opening_target l.part.target ≡ true → has_rows rows p.event ≡ false = λ o. new (ap is_opening l.put ∙ o) in
       let joined : unless_ended (row_at rows row.event row.zone) ≡ joined_row rows p.event row.zone l.part.target = ap (λ (e : Event). unless_ended (row_at rows e row.zone)) (sym l.spoken.0) ∙ sym (joined_by p.event row.zone l.part.target opening) in
@@ -116,10 +116,10 @@ module _ (rows : List Row) (t : ℕ) (all : List Placed) where
       let same : row.period ≡ period_by_put t l.part (joined_row rows p.event row.zone l.part.target) = λ i. record { begin = begin i; end = end i } in
       (l.spoken.0, refl, sym same, refl)
 
-  by_intent_to : (p : Placed) (row : Row) (l : IsLeftBy rows t row p) → Has (rows_by_intent rows t p p.intent) (row_by_put rows t p.event l.part row.zone)
+  by_intent_to : (p : Placed) (row : Row) (l : IsLeftBy rows t row p) → Has (rows_by_intent rows t p p.intent) (row_after_put rows t p.event l.part row.zone)
   by_intent_to p row l =
       let zone : Has l.part.zones row.zone = has_from l.part.zones row.zone (subst (λ (zs : List Place). Contains zs row.zone) (ap zones_of l.put) l.spoken.1) in
-      subst (λ (i : Intent). Has (rows_by_intent rows t p i) (row_by_put rows t p.event l.part row.zone)) (sym l.put) (map_has (row_by_put rows t p.event l.part) l.part.zones row.zone zone)
+      subst (λ (i : Intent). Has (rows_by_intent rows t p i) (row_after_put rows t p.event l.part row.zone)) (sym l.put) (map_has (row_after_put rows t p.event l.part) l.part.zones row.zone zone)
 
   by_puts_to : (qs : List Placed) (p : Placed) → Has qs p → (row : Row) → Has (rows_by_intent rows t p p.intent) row → Has (rows_by_puts rows t qs) row
   by_puts_to [] p h row g = absurd h
@@ -138,7 +138,7 @@ module _ (rows : List Row) (t : ℕ) (all : List Placed) where
     after_to row going (inr w) =
         let m = any_in (IsLeftBy rows t row) all w in
         let own : IsFit rows t all m.0 = all_has (IsFit rows t all) all m.0 fit m.1 in (
-          row_by_put rows t m.0.event m.2.part row.zone,
+          row_after_put rows t m.0.event m.2.part row.zone,
           has_right (filter (is_left all) rows) (rows_by_puts rows t all) _ (by_puts_to all m.0 m.1 _ (by_intent_to m.0 row m.2)),
           by_put_like m.0 row m.2 own.new,
         )

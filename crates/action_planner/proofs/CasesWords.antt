@@ -7,7 +7,7 @@ use Rattle.std.proofs.lemmas.Slice.Eq.{bytes_eq-Decides}
 use Rattle.std.specs.Bool.{Decides}
 use Rattle.std.specs.List.{All, Any, Contains, list_any, slice_index_or}
 use Rattle.hazard_types.specs.Hazards.{facts_of}
-use Rattle.hazard_types.specs.Names.{is_flood}
+use Rattle.hazard_types.specs.Names.{is_fl_phenomenon}
 use Rattle.hazard_types.specs.Places.{Place}
 use Rattle.hazard_types.specs.Same.{same_zone, same_event}
 use Rattle.hazard_types.specs.declared.codes.Category.{Category}
@@ -139,7 +139,7 @@ follows_by c (Some facts) = (
 pub follows_Decides : (c : Category) (h : Hazard) → Decides (follows c (facts_of h)) (IsFollowedBy c h)
 follows_Decides c h = follows_by c (facts_of h)
 
-pub flood_Decides : (h : Hazard) → Decides (is_flood h) (h.phen ≡ codes "FL")
+pub flood_Decides : (h : Hazard) → Decides (is_fl_phenomenon h) (h.phen ≡ codes "FL")
 flood_Decides h = bytes_eq-Decides h.phen (codes "FL")
 
 -- lines

@@ -19,9 +19,9 @@ use Rattle.office_types.specs.declared.request.Target.{Target}
 use Rattle.office_types.specs.declared.request.Target.TheVariants.{Fresh, Join}
 use Rattle.hazard_types.proofs.Equality.{event_itself, event_one, zone_itself, zone_one}
 use Rattle.event_life.specs.Periods.{is_live, same_at}
-use Rattle.event_life.specs.Products.{by_key, is_routine, is_upgrade, row_at, speaks_of}
+use Rattle.event_life.specs.Products.{by_key, is_routine, is_upgrade, row_at, concerns}
 use Rattle.event_life.proofs.Keys.{key_ties}
-use Rattle.event_life.proofs.Puts.{at_key, at_key-parts, speaks_of-parts}
+use Rattle.event_life.proofs.Puts.{at_key, at_key-parts, concerns-parts}
 use Rattle.hazard_board.specs.Board.{has_period}
 use Rattle.action_planner.specs.Placed.{Placed, zones_of, touches, speaks}
 use Rattle.action_planner.specs.Lines.{put_period, put_period_on, opening_action, joined_row, put_line_on, put_line, line_on, finish_lines, restate_lines, lines_in, lines_in_zones, lines_from, goes_on, goes_on_beside, added_lines, planned_lines}
@@ -49,9 +49,9 @@ apart_turned l m apart = false_from_ne_true _ (λ h.
     let p = of_key-parts m.event m.zone l h in
     both_ways _ apart (key_of l.event l.zone m (sym p.0) (sym p.1)))
 
-pub apart_unspoken : (e : Event) (z : Place) (m : Line) → of_key e z m ≡ false → speaks_of e z m ≡ false
+pub apart_unspoken : (e : Event) (z : Place) (m : Line) → of_key e z m ≡ false → concerns e z m ≡ false
 apart_unspoken e z m apart = false_from_ne_true _ (λ h.
-    let p = speaks_of-parts e z m h in
+    let p = concerns-parts e z m h in
     both_ways _ apart (key_of e z m p.1 p.2))
 
 -- the line is of this event and zone
@@ -249,12 +249,12 @@ module _ (rows : List Row) (t : ℕ) (all : List Placed) where
 -- lines that are apart, either way
 
 -- a line's event and zone are no other line's
-pub one_line : (lines : List Line) (l : Line) → EachPair AreApart lines → Has lines l → AllByRecursion (λ m. speaks_of l.event l.zone m ≡ true → m ≡ l) lines
+pub one_line : (lines : List Line) (l : Line) → EachPair AreApart lines → Has lines l → AllByRecursion (λ m. concerns l.event l.zone m ≡ true → m ≡ l) lines
 one_line [] l apart h = tt
 one_line (x ∷ lines) l apart (inl same) = (
   λ s. same,
-  all_weaker (AreApart x) (λ m. speaks_of l.event l.zone m ≡ true → m ≡ l) (λ m a s.
-      let other : speaks_of l.event l.zone m ≡ false = ap (λ (y : Line). speaks_of y.event y.zone m) (sym same) ∙ apart_unspoken x.event x.zone m a in
+  all_weaker (AreApart x) (λ m. concerns l.event l.zone m ≡ true → m ≡ l) (λ m a s.
+      let other : concerns l.event l.zone m ≡ false = ap (λ (y : Line). concerns y.event y.zone m) (sym same) ∙ apart_unspoken x.event x.zone m a in
       absurd (both_ways _ other s)) lines apart.0,
 )
 one_line (x ∷ lines) l apart (inr h) =
@@ -263,7 +263,7 @@ one_line (x ∷ lines) l apart (inr h) =
       one_line lines l apart.1 h,
     )
 
-pub spoken_itself : (l : Line) → is_routine l.action ≡ false → speaks_of l.event l.zone l ≡ true
+pub spoken_itself : (l : Line) → is_routine l.action ≡ false → concerns l.event l.zone l ≡ true
 spoken_itself l plain = and_from _ _ (and_from _ _ (not_from_false _ plain) (event_itself l.event)) (zone_itself l.zone)
 
 -- in the words of clauses
@@ -272,19 +272,19 @@ distinct_from lines apart =
     pairs_from (λ (l m : Line). (l.event ≡ m.event) × (l.zone ≡ m.zone) → ⊥) lines
     (pair_weaker AreApart (λ l m. (l.event ≡ m.event) × (l.zone ≡ m.zone) → ⊥) (λ l m a same. both_ways _ a (key_of l.event l.zone m (sym same.0) (sym same.1))) lines apart)
 
-pub turned_pairs : (lines : List Line) → EachPair AreApart lines → EachPair (λ l m. speaks_of m.event m.zone l ≡ false) lines
-turned_pairs lines apart = pair_weaker AreApart (λ l m. speaks_of m.event m.zone l ≡ false) (λ l m a. apart_unspoken m.event m.zone l (apart_turned l m a)) lines apart
+pub turned_pairs : (lines : List Line) → EachPair AreApart lines → EachPair (λ l m. concerns m.event m.zone l ≡ false) lines
+turned_pairs lines apart = pair_weaker AreApart (λ l m. concerns m.event m.zone l ≡ false) (λ l m a. apart_unspoken m.event m.zone l (apart_turned l m a)) lines apart
 
 -- none of the earlier lines speaks as this one does
 abbrev pub IsFirst : List Line → Line → Type 0
-IsFirst earlier line = list_any (speaks_of line.event line.zone) earlier ≡ false
+IsFirst earlier line = list_any (concerns line.event line.zone) earlier ≡ false
 
 abbrev pub AreFirst : List Line → List Line → Type 0
-AreFirst earlier lines = AllByRecursion (IsFirst earlier) lines × EachPair (λ l m. speaks_of m.event m.zone l ≡ false) lines
+AreFirst earlier lines = AllByRecursion (IsFirst earlier) lines × EachPair (λ l m. concerns m.event m.zone l ≡ false) lines
 
-firsts : (earlier : List Line) (line : Line) (lines : List Line) → AllByRecursion (IsFirst earlier) lines → AllByRecursion (λ m. speaks_of m.event m.zone line ≡ false) lines → AllByRecursion (IsFirst (earlier ++ line ∷ [])) lines
+firsts : (earlier : List Line) (line : Line) (lines : List Line) → AllByRecursion (IsFirst earlier) lines → AllByRecursion (λ m. concerns m.event m.zone line ≡ false) lines → AllByRecursion (IsFirst (earlier ++ line ∷ [])) lines
 firsts earlier line [] h g = tt
-firsts earlier line (m ∷ lines) h g = (list_any-append (speaks_of m.event m.zone) earlier (line ∷ []) ∙ rw (h.0, g.0) refl, firsts earlier line lines h.1 g.1)
+firsts earlier line (m ∷ lines) h g = (list_any-append (concerns m.event m.zone) earlier (line ∷ []) ∙ rw (h.0, g.0) refl, firsts earlier line lines h.1 g.1)
 
 pub first_more : (earlier : List Line) (line : Line) (lines : List Line) → AreFirst earlier (line ∷ lines) → AreFirst (earlier ++ line ∷ []) lines
 first_more earlier line lines first = (firsts earlier line lines first.0.1 first.1.0, first.1.1)

@@ -19,7 +19,7 @@ use Rattle.event_life.specs.declared.life.Around.{Around}
 use Rattle.event_life.specs.declared.life.Breach.{Breach}
 use Rattle.event_life.specs.declared.life.Breach.TheVariants.{TooEarly, PeriodMoved, PeriodSame, TooLate, NoHigher}
 use Rattle.event_life.specs.Periods.{ends_after, is_not_long_past, is_live, keeps_open, same_at, same_end}
-use Rattle.event_life.specs.Table.{first_of, on_continuing, on_ending, prints_begin, moves_begin, prints_past, prints_later, expires_early, expires_late, cancels_late, continued_period, stays, breach_of_line}
+use Rattle.event_life.specs.Table.{first_of, on_continuing, on_ending, prints_begin_as_due, moves_begin, prints_past, prints_later, expires_early, expires_late, cancels_late, continued_period, stays, breach_of_line}
 use Rattle.event_life.specs.Products.{around_but_higher, has_rows, is_held, is_open, is_upgrade, life_at, life_of, row_at}
 use Rattle.event_life.proofs.Puts.{at_key, at_key-parts}
 use Rattle.hazard_board.specs.Board.{has_period}
@@ -278,7 +278,7 @@ cor_sound rows t row h live long b u =
 
 -- CAN, EXP, UPG
 
-prints_by : (m t : ℕ) (x : Bool) → nat_le m t ≡ x → (prints_begin (printed_begin m t) m t ≡ true) × (moves_begin (printed_begin m t) m ≡ false)
+prints_by : (m t : ℕ) (x : Bool) → nat_le m t ≡ x → (prints_begin_as_due (printed_begin m t) m t ≡ true) × (moves_begin (printed_begin m t) m ≡ false)
 prints_by m t true h = (rw h h, rw h refl)
 prints_by m t false h = (rw h (lt-ltb t m (leb-false m t h)), rw (h, eq-eqb m m refl) refl)
 

@@ -22,12 +22,12 @@ use Rattle.event_life.specs.declared.life.Life.{Life}
 use Rattle.event_life.specs.Higher.{may_yield, outranks}
 use Rattle.event_life.specs.Lives.{opens}
 use Rattle.event_life.specs.Periods.{ends_after, is_live, overlaps, same_at}
-use Rattle.event_life.specs.Table.{continued_period, flood_after, life_after, left_of_life, opened_period}
-use Rattle.event_life.specs.Products.{by_key, has_higher, is_overlapped, is_routine, is_upgrade, life_of, row_after, row_at, row_of, rows_for_higher, speaks_of}
-use Rattle.event_life.proofs.Puts.{speaks_of-parts}
+use Rattle.event_life.specs.Table.{continued_period, flood_after, life_after_lawful_line, life_after_line, opened_period}
+use Rattle.event_life.specs.Products.{by_key, has_higher, is_overlapped, is_routine, is_upgrade, life_of, row_after, row_at, row_of, rows_for_higher, concerns}
+use Rattle.event_life.proofs.Puts.{concerns-parts}
 use Rattle.hazard_board.specs.Board.{has_period}
 use Rattle.action_planner.specs.Placed.{Placed, zones_of, touches, speaks}
-use Rattle.action_planner.specs.Lines.{put_period, put_period_on, continuing_line, opening_action, opening_line, joined_row, put_line_on, put_line, line_on, puts_or_finishes, is_left, period_by_put, row_by_put, rows_by_intent, rows_by_puts, rows_left, is_overlaid, is_near_end, finishing_action, finish_lines, restate_lines, lines_in, lines_in_zones, lines_from, goes_on_beside, added_lines, planned_lines}
+use Rattle.action_planner.specs.Lines.{put_period, put_period_on, continuing_line, opening_action, opening_line, joined_row, put_line_on, put_line, line_on, puts_or_finishes, is_left, period_by_put, row_after_put, rows_by_intent, rows_by_puts, rows_left, is_overlaid, is_near_end, finishing_action, finish_lines, restate_lines, lines_in, lines_in_zones, lines_from, goes_on_beside, added_lines, planned_lines}
 use Rattle.action_planner.specs.Offences.{is_bad_period, bad_period_of}
 use Rattle.action_planner.proofs.LawfulLists.{EachPair, Has, all_append, all_each, all_filter, all_has, all_map, all_weaker, any_has, has_any, has_filter, has_left, has_map, has_right, has_split, none_of}
 use Rattle.action_planner.proofs.LawfulPlaced.{IsFit}
@@ -39,15 +39,15 @@ use Rattle.action_planner.proofs.LawfulHigher.{IsOfLives, Leaves, stands_after}
 -- what lines leave
 
 con_leaves : (rows : List Row) (t : ℕ) (Q : Row → Bool) → IsOfLives Q → (r : Row) → row_at rows r.event r.zone ≡ Some r → Q r ≡ true → Q (row_after rows t (line_on Con t r)) ≡ true
-unfolding life_after
+unfolding life_after_lawful_line
 con_leaves rows t Q lives r h q =
-    let left : Row = row_of (line_on Con t r) (left_of_life Con (life_of r) (line_on Con t r) t) in
-    let same : row_after rows t (line_on Con t r) ≡ left = ap (λ (o : Option Row). row_of (line_on Con t r) (life_after (option_map life_of o) (line_on Con t r) t)) h in
+    let left : Row = row_of (line_on Con t r) (life_after_line Con (life_of r) (line_on Con t r) t) in
+    let same : row_after rows t (line_on Con t r) ≡ left = ap (λ (o : Option Row). row_of (line_on Con t r) (life_after_lawful_line (option_map life_of o) (line_on Con t r) t)) h in
     ap Q same ∙ lives r left refl refl (sym (continued_as_is t r)) refl q
 
 continuing_left : (rows : List Row) (t : ℕ) (e : Event) (part : PutPart) (row : Row) (same : Bool) → same_at t row.period (put_period_on part t row) ≡ same →
-    life_after (Some (life_of row)) (continuing_line t e part row) t ≡ record { period = continued_period (life_of row) (continuing_line t e part row) t; flood = flood_after row.flood part.flood; ended = false }
-unfolding life_after
+    life_after_lawful_line (Some (life_of row)) (continuing_line t e part row) t ≡ record { period = continued_period (life_of row) (continuing_line t e part row) t; flood = flood_after row.flood part.flood; ended = false }
+unfolding life_after_lawful_line
 continuing_left rows t e part row true h = rw h refl
 continuing_left rows t e part row false h = rw h refl
 
@@ -59,7 +59,7 @@ put_leaves_on rows t Q lives e part z row h ok q =
     let here : row_at rows e row.zone ≡ Some row = ap (λ (y : Place). row_at rows e y) p.1 ∙ h in
     let life : Life = record { period = continued_period (life_of row) line t; flood = flood_after row.flood part.flood; ended = false } in
     let same : row_after rows t line ≡ row_of line life =
-    ap (λ (o : Option Row). row_of line (life_after (option_map life_of o) line t)) here
+    ap (λ (o : Option Row). row_of line (life_after_lawful_line (option_map life_of o) line t)) here
     ∙ ap (row_of line) (continuing_left rows t e part row (same_at t row.period (put_period_on part t row)) refl) in
     ap Q same ∙ lives _ (row_of line life) (sym p.1) refl (sym (continued_by_put t e part row ok)) refl q
 
@@ -71,15 +71,15 @@ opening_opens rows t e part (Join d) = joining_opens (has_period rows e (put_per
     joining_opens true = refl
     joining_opens false = refl
 
-opened_anew : (a : Action) (life : Life) (line : Line) (t : ℕ) → opens a ≡ true → left_of_life a life line t ≡ record { period = opened_period line t; flood = line.flood; ended = false }
+opened_anew : (a : Action) (life : Life) (line : Line) (t : ℕ) → opens a ≡ true → life_after_line a life line t ≡ record { period = opened_period line t; flood = line.flood; ended = false }
 opened_anew New life line t h = refl
 opened_anew Exa life line t h = refl
 opened_anew Exb life line t h = refl
 opened_anew _ life line t h = cc
 
 -- an opening line leaves the life that it opens, whatever was there
-pub opening_left : (o : Option Row) (line : Line) (t : ℕ) → opens line.action ≡ true → life_after (option_map life_of o) line t ≡ record { period = opened_period line t; flood = line.flood; ended = false }
-unfolding life_after
+pub opening_left : (o : Option Row) (line : Line) (t : ℕ) → opens line.action ≡ true → life_after_lawful_line (option_map life_of o) line t ≡ record { period = opened_period line t; flood = line.flood; ended = false }
+unfolding life_after_lawful_line
 opening_left None line t h = refl
 opening_left (Some row) line t h = opened_anew line.action (life_of row) line t h
 
@@ -103,7 +103,7 @@ put_leaves_by rows t Q lives e part z (Some row) h ok q = put_leaves_on rows t Q
 
 -- a put's line leaves the put's row
 put_leaves : (rows : List Row) (t : ℕ) (Q : Row → Bool) → IsOfLives Q → (e : Event) (part : PutPart) (z : Place) →
-    is_bad_period part t ≡ false → Q (row_by_put rows t e part z) ≡ true → Q (row_after rows t (put_line rows t e part z)) ≡ true
+    is_bad_period part t ≡ false → Q (row_after_put rows t e part z) ≡ true → Q (row_after rows t (put_line rows t e part z)) ≡ true
 put_leaves rows t Q lives e part z = put_leaves_by rows t Q lives e part z (joined_row rows e z part.target) refl
 
 module _ (rows : List Row) (t : ℕ) (all : List Placed) (Q : Row → Bool) (lives : IsOfLives Q) where
@@ -113,9 +113,9 @@ module _ (rows : List Row) (t : ℕ) (all : List Placed) (Q : Row → Bool) (liv
     abbrev LeavesIt : Line → Type 0
     LeavesIt = Leaves rows t Q r.event r.zone
 
-    same_row : (s : Row) → row_at rows s.event s.zone ≡ Some s → speaks_of r.event r.zone (line_on Con t s) ≡ true → s ≡ r
+    same_row : (s : Row) → row_at rows s.event s.zone ≡ Some s → concerns r.event r.zone (line_on Con t s) ≡ true → s ≡ r
     same_row s own h =
-        let p = speaks_of-parts r.event r.zone (line_on Con t s) h in
+        let p = concerns-parts r.event r.zone (line_on Con t s) h in
         let found : Some s ≡ Some r = sym own ∙ ap (λ (x : Event). row_at rows x s.zone) p.1 ∙ ap (λ (y : Place). row_at rows r.event y) p.2 ∙ here in
         cc
 
@@ -130,7 +130,7 @@ module _ (rows : List Row) (t : ℕ) (all : List Placed) (Q : Row → Bool) (liv
 
     unspoken_leaves : (e : Event) (i : Intent) (z : Place) → (e ≡ r.event → z ≡ r.zone → ⊥) → AllByRecursion LeavesIt (lines_in rows t all e i z)
     unspoken_leaves e i z apart = all_weaker (IsOn e z) LeavesIt (λ l on h.
-        let p = speaks_of-parts r.event r.zone l h in
+        let p = concerns-parts r.event r.zone l h in
         absurd (apart (sym on.0 ∙ p.1) (sym on.1 ∙ p.2))) (lines_in rows t all e i z) (lines_on rows t all e i z)
 
     intent_leaves : (e : Event) (i : Intent) (z : Place) → (puts_or_finishes i ≡ true → e ≡ r.event → z ≡ r.zone → ⊥) → AllByRecursion LeavesIt (lines_in rows t all e i z)
@@ -164,8 +164,8 @@ module _ (rows : List Row) (t : ℕ) (all : List Placed) (Q : Row → Bool) (liv
 
   puts_by : (p : Placed) (e : Event) (i : Intent) (row : Row) → bad_period_of t p.place i ≡ None → p.event ≡ e → Has (rows_by_intent rows t p i) row → Q row ≡ true → PutsIt (lines_in_zones rows t all e i (zones_of i))
   puts_by p e (Put part) row period same h q =
-      let m = has_map (row_by_put rows t p.event part) part.zones row h in
-      let passes : Q (row_by_put rows t e part m.0) ≡ true = ap (λ (x : Event). Q (row_by_put rows t x part m.0)) (sym same) ∙ ap Q m.2 ∙ q in
+      let m = has_map (row_after_put rows t p.event part) part.zones row h in
+      let passes : Q (row_after_put rows t e part m.0) ≡ true = ap (λ (x : Event). Q (row_after_put rows t x part m.0)) (sym same) ∙ ap Q m.2 ∙ q in
       let line = put_line rows t e part m.0 in
       (line, has_zone e (Put part) part.zones m.0 line m.1 (inl refl), put-no_upgrade rows t e part m.0, put-no_routine rows t e part m.0, put_leaves rows t Q lives e part m.0 (not_bad (is_bad_period part t) _ period) passes)
   puts_by p e (Finish part) row period same h q = absurd h
@@ -196,10 +196,10 @@ module _ (rows : List Row) (t : ℕ) (all : List Placed) (Q : Row → Bool) (liv
         let lines = planned_lines c rows t all in
         let l : Line = m.0 in
         let there : Has lines l = has_left (lines_from rows t all all) (added_lines c rows t all) l m.1 in
-        let leaves : AllByRecursion (Leaves rows t Q l.event l.zone) lines = all_weaker (λ x. speaks_of l.event l.zone x ≡ true → x ≡ l) (Leaves rows t Q l.event l.zone) (λ x one s.
+        let leaves : AllByRecursion (Leaves rows t Q l.event l.zone) lines = all_weaker (λ x. concerns l.event l.zone x ≡ true → x ≡ l) (Leaves rows t Q l.event l.zone) (λ x one s.
         let same : x ≡ l = one s in
         (ap (λ (y : Line). is_upgrade y.action) same ∙ m.2, ap (λ (y : Line). Q (row_after rows t y)) same ∙ m.4)) lines (one_line lines l apart there) in
-        stands_after rows t Q l.event l.zone lines (turned_pairs lines apart) sound leaves (inl (any_has (speaks_of l.event l.zone) lines l there (spoken_itself l m.3)))
+        stands_after rows t Q l.event l.zone lines (turned_pairs lines apart) sound leaves (inl (any_has (concerns l.event l.zone) lines l there (spoken_itself l m.3)))
 
     pub stands : list_any Q (rows_left rows t all) ≡ true → list_any Q (rows_for_higher rows t (planned_lines c rows t all)) ≡ true
     stands h =

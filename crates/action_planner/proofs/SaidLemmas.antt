@@ -10,11 +10,11 @@ use Rattle.hazard_types.specs.declared.line.Row.{Row}
 use Rattle.hazard_types.specs.declared.line.Segment.{Segment}
 use Rattle.hazard_types.proofs.OrderLaws.{by_event_total}
 use Rattle.event_life.specs.Openings.{opened_by}
-use Rattle.event_life.specs.Products.{by_key, rows_after, speaks_of}
+use Rattle.event_life.specs.Products.{by_key, rows_after, concerns}
 use Rattle.event_life.specs.Reordered.{are_lawful, AreApart, TouchAlike}
 use Rattle.event_life.proofs.FreeOrder.{are_lawful-alike, rows_after-alike}
 use Rattle.event_life.proofs.OnceLemmas.{opened_by-up}
-use Rattle.event_life.proofs.Puts.{speaks_of-parts}
+use Rattle.event_life.proofs.Puts.{concerns-parts}
 use Rattle.segmenter.specs.Said.{lines_in_text, IsApart}
 use Rattle.segmenter.specs.Segments.{AreSegments, Has as IsIn}
 use Rattle.segmenter.proofs.LawLemmas.{same_list}
@@ -26,9 +26,9 @@ use Rattle.action_planner.proofs.NumberLemmas.{opened_from, opened_to}
 each_apart : (lines : List Line) → EachPair IsApart lines → AreApart lines
 each_apart [] pairs = tt
 each_apart (line ∷ lines) pairs = (
-  λ own. none_from (speaks_of line.event line.zone) lines
-      (all_weaker (IsApart line) (λ m. speaks_of line.event line.zone m ≡ false) (λ m apart. false_from_ne_true _ (λ h.
-      let p = speaks_of-parts line.event line.zone m h in
+  λ own. none_from (concerns line.event line.zone) lines
+      (all_weaker (IsApart line) (λ m. concerns line.event line.zone m ≡ false) (λ m apart. false_from_ne_true _ (λ h.
+      let p = concerns-parts line.event line.zone m h in
       apart (sym p.1, sym p.2))) lines pairs.0),
   each_apart lines pairs.1,
 )

@@ -14,11 +14,11 @@ use Rattle.hazard_types.specs.declared.hazard.Event.{Event}
 use Rattle.hazard_types.proofs.Equality.{event_one, event_itself, zone_one, zone_itself}
 use Rattle.hazard_types.proofs.OrderLaws.{by_event_total, by_event_ties, by_place_total, by_place_ties}
 use Rattle.hazard_board.proofs.Keyed.{at_one, at_itself, found_after, has_after, same_tests, zone_at}
-use Rattle.action_planner.specs.declared.spoken.Speakers.{Speakers}
+use Rattle.action_planner.specs.declared.spoken.IntentsOn.{IntentsOn}
 use Rattle.action_planner.specs.declared.spoken.Spot.{Spot}
 use Rattle.action_planner.specs.Lines.{puts_or_finishes}
 use Rattle.action_planner.specs.Placed.{Placed, zones_of, touches, speaks}
-use Rattle.action_planner.specs.Spoken.{by_spot, spot_of, Spots, speakers_at, speakers_with, add_spot, add_spots, spots_from, add_zones, zones_from, is_taken, has_other}
+use Rattle.action_planner.specs.Spoken.{by_spot, spot_of, Spots, speakers_at, with_intent, add_spot, add_spots, spots_from, add_zones, zones_from, is_taken, has_other}
 
 by_spot_total : IsTotalOrder by_spot
 by_spot_total = then_total (on_total (λ (s : Spot). s.event) by_event_total) (on_total (λ (s : Spot). s.zone) by_place_total)
@@ -113,15 +113,15 @@ zone_or_rest false true true z r = refl
 zone_or_rest false true false z r = refl
 zone_or_rest false false e z r = refl
 
-module _ (asked : Option Speakers → Bool) (says : Placed → Bool) (step : (held : Option Speakers) (p : Placed) → asked (Some (speakers_with held p)) ≡ (asked held || says p)) (q : Spot) where
-  added_by : (b : Bool) (held here : Option Speakers) (p : Placed) → (b ≡ true → here ≡ held) → asked (cond b (Some (speakers_with here p)) held) ≡ (asked held || (says p && b))
-  added_by true held here p same = ap (λ o. asked (Some (speakers_with o p))) (same refl) ∙ step held p ∙ ap (λ b. asked held || b) (sym (and_true (says p)))
+module _ (asked : Option IntentsOn → Bool) (says : Placed → Bool) (step : (held : Option IntentsOn) (p : Placed) → asked (Some (with_intent held p)) ≡ (asked held || says p)) (q : Spot) where
+  added_by : (b : Bool) (held here : Option IntentsOn) (p : Placed) → (b ≡ true → here ≡ held) → asked (cond b (Some (with_intent here p)) held) ≡ (asked held || (says p && b))
+  added_by true held here p same = ap (λ o. asked (Some (with_intent o p))) (same refl) ∙ step held p ∙ ap (λ b. asked held || b) (sym (and_true (says p)))
   added_by false held here p same = no_more (asked held) (says p)
 
   spot_added : (spots : Spots) (p : Placed) (z : Place) → asked (speakers_at (add_spot spots p z) q) ≡ (asked (speakers_at spots q) || (says p && (same_event p.event q.event && same_zone z q.zone)))
   spot_added spots p z =
       let k = spot_of p z in
-      ap asked (found_after by_spot by_spot_total by_spot_ties q k (speakers_with (speakers_at spots k) p) spots)
+      ap asked (found_after by_spot by_spot_total by_spot_ties q k (with_intent (speakers_at spots k) p) spots)
       ∙ added_by (is_at (by_spot q) k) (speakers_at spots q) (speakers_at spots k) p (λ h. ap (speakers_at spots) (sym (at_one by_spot by_spot_total by_spot_ties q k h)))
       ∙ ap (λ b. asked (speakers_at spots q) || (says p && b)) (spot_at q k)
 
@@ -144,15 +144,15 @@ module _ (asked : Option Speakers → Bool) (says : Placed → Bool) (step : (he
       ∙ ap (λ b. b || any_says ps) (spots_added spots p (zones_of p.intent))
       ∙ or_or (asked (speakers_at spots q)) (says p && speaks q.event q.zone p) (any_says ps)
 
-  told : (spots : Spots) (ps : List Placed) (held : Option Speakers) → asked None ≡ false → held ≡ speakers_at spots q → spots ≡ spots_from [] ps → asked held ≡ any_says ps
+  told : (spots : Spots) (ps : List Placed) (held : Option IntentsOn) → asked None ≡ false → held ≡ speakers_at spots q → spots ≡ spots_from [] ps → asked held ≡ any_says ps
   told spots ps held none is of =
       ap asked is ∙ ap (λ es. asked (speakers_at es q)) of ∙ spots_of_all [] ps ∙ ap (λ b. b || any_says ps) none
 
-spoken_step : (held : Option Speakers) (p : Placed) → true ≡ (is_some held || true)
+spoken_step : (held : Option IntentsOn) (p : Placed) → true ≡ (is_some held || true)
 spoken_step None p = refl
 spoken_step (Some h) p = refl
 
-taken_step : (held : Option Speakers) (p : Placed) → is_taken (Some (speakers_with held p)) ≡ (is_taken held || puts_or_finishes p.intent)
+taken_step : (held : Option IntentsOn) (p : Placed) → is_taken (Some (with_intent held p)) ≡ (is_taken held || puts_or_finishes p.intent)
 taken_step None p = refl
 taken_step (Some h) p = refl
 
@@ -165,11 +165,11 @@ other_by true n first others p is =
     rw same (ap (λ c. others || not c) (same_number n p.place))
 other_by false n first others p is = refl
 
-other_step : (n : ℕ) (held : Option Speakers) (p : Placed) → has_other n (Some (speakers_with held p)) ≡ (has_other n held || not (p.place == n))
+other_step : (n : ℕ) (held : Option IntentsOn) (p : Placed) → has_other n (Some (with_intent held p)) ≡ (has_other n held || not (p.place == n))
 other_step n None p = sym (or_none (not (p.place == n)))
 other_step n (Some h) p = other_by (h.first == n) n h.first h.others p refl
 
-module _ (spots : Spots) (ps : List Placed) (e : Event) (z : Place) (held : Option Speakers) (is : held ≡ speakers_at spots (record { event = e; zone = z })) (of : spots ≡ spots_from [] ps) where
+module _ (spots : Spots) (ps : List Placed) (e : Event) (z : Place) (held : Option IntentsOn) (is : held ≡ speakers_at spots (record { event = e; zone = z })) (of : spots ≡ spots_from [] ps) where
   pub any_speaks : is_some held ≡ list_any (speaks e z) ps
   any_speaks = told is_some (λ (p : Placed). true) spoken_step (record { event = e; zone = z }) spots ps held refl is of
 

@@ -2,7 +2,7 @@
 use Rattle.std.specs.Prelude.{◌&&◌, not, ℕ, ◌+◌, Bool, true, false, List, [], ◌∷◌, ◌++◌, map, filter, nat_le, if◌then◌else◌, Option, Some, None}
 use Rattle.std.specs.List.{list_any}
 use Rattle.hazard_types.specs.Hazards.{facts_of}
-use Rattle.hazard_types.specs.Names.{is_flood}
+use Rattle.hazard_types.specs.Names.{is_fl_phenomenon}
 use Rattle.hazard_types.specs.Places.{Place}
 use Rattle.hazard_types.specs.Same.{same_zone}
 use Rattle.hazard_types.specs.contracts.codes.CategoryPartialEq.TheImpl as category
@@ -98,11 +98,11 @@ period_by_put t part None = put_period part t
 period_by_put t part (Some row) = put_period_on part t row
 
 -- the row of a put in a zone, as far as its event, zone and period go
-abbrev pub row_by_put : List Row → ℕ → Event → PutPart → Place → Row
-row_by_put rows t e part z = record { event = e; zone = z; period = period_by_put t part (joined_row rows e z part.target); flood = part.flood; ended = false }
+abbrev pub row_after_put : List Row → ℕ → Event → PutPart → Place → Row
+row_after_put rows t e part z = record { event = e; zone = z; period = period_by_put t part (joined_row rows e z part.target); flood = part.flood; ended = false }
 
 abbrev pub rows_by_intent : List Row → ℕ → Placed → Intent → List Row
-rows_by_intent rows t p (Put part) = map (row_by_put rows t p.event part) part.zones
+rows_by_intent rows t p (Put part) = map (row_after_put rows t p.event part) part.zones
 rows_by_intent rows t p (Finish part) = []
 rows_by_intent rows t p (Restate part) = []
 rows_by_intent rows t p (Routine part) = []
@@ -167,7 +167,7 @@ follows c (Some facts) = category.eq-value.it facts.follows c
 
 -- a row of the draft's category in a zone that it touches, and no intent is on it
 abbrev pub goes_on : Category → List Placed → Row → Bool
-goes_on c ps row = follows c (facts_of row.event.hazard) && not (is_flood row.event.hazard) && list_any (touches row.zone) ps && not (list_any (speaks row.event row.zone) ps)
+goes_on c ps row = follows c (facts_of row.event.hazard) && not (is_fl_phenomenon row.event.hazard) && list_any (touches row.zone) ps && not (list_any (speaks row.event row.zone) ps)
 
 abbrev pub goes_on_beside : Category → ℕ → List Placed → Row → Bool
 goes_on_beside c t ps row = is_live t row && goes_on c ps row

@@ -7,7 +7,7 @@ use Rattle.std.specs.declared.cmp.Ordering.{Ordering}
 use Rattle.std.specs.Ordering.{on, then_cmp}
 use Rattle.hazard_types.specs.Orders.{by_event}
 use Rattle.hazard_types.specs.Places.{Place, by_place}
-use Rattle.action_planner.specs.declared.spoken.Speakers.{Speakers}
+use Rattle.action_planner.specs.declared.spoken.IntentsOn.{IntentsOn}
 use Rattle.action_planner.specs.declared.spoken.Spot.{Spot}
 use Rattle.action_planner.specs.Lines.{puts_or_finishes}
 use Rattle.action_planner.specs.Placed.{Placed, zones_of}
@@ -20,18 +20,18 @@ abbrev pub spot_of : Placed → Place → Spot
 spot_of p z = record { event = p.event; zone = z }
 
 abbrev pub Spots : Type 0
-Spots = List (Spot × Speakers)
+Spots = List (Spot × IntentsOn)
 
-abbrev pub speakers_at : Spots → Spot → Option Speakers
+abbrev pub speakers_at : Spots → Spot → Option IntentsOn
 speakers_at spots s = lookup (is_at (by_spot s)) spots
 
 -- those on a spot, and one more
-abbrev pub speakers_with : Option Speakers → Placed → Speakers
-speakers_with None p = record { first = p.place; others = false; taken = puts_or_finishes p.intent }
-speakers_with (Some held) p = record { first = held.first; others = held.others || not (held.first == p.place); taken = held.taken || puts_or_finishes p.intent }
+abbrev pub with_intent : Option IntentsOn → Placed → IntentsOn
+with_intent None p = record { first = p.place; others = false; taken = puts_or_finishes p.intent }
+with_intent (Some held) p = record { first = held.first; others = held.others || not (held.first == p.place); taken = held.taken || puts_or_finishes p.intent }
 
 abbrev pub add_spot : Spots → Placed → Place → Spots
-add_spot spots p z = insert_entry by_spot spots (spot_of p z) (speakers_with (speakers_at spots (spot_of p z)) p)
+add_spot spots p z = insert_entry by_spot spots (spot_of p z) (with_intent (speakers_at spots (spot_of p z)) p)
 
 abbrev pub add_spots : Spots → Placed → List Place → Spots
 add_spots spots p [] = spots
@@ -57,11 +57,11 @@ pub record IsIndex (ps : List Placed) (spots : Spots) (zones : List Place) : Typ
   pub touched : zones ≡ zones_from [] ps
 
 -- whether one of those on a spot is a put or a finish
-abbrev pub is_taken : Option Speakers → Bool
+abbrev pub is_taken : Option IntentsOn → Bool
 is_taken None = false
 is_taken (Some held) = held.taken
 
 -- whether one of those on a spot is at another place than this
-abbrev pub has_other : ℕ → Option Speakers → Bool
+abbrev pub has_other : ℕ → Option IntentsOn → Bool
 has_other n None = false
 has_other n (Some held) = not (held.first == n) || held.others

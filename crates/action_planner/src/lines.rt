@@ -18,7 +18,7 @@ use crate::spoken::Spoken;
 use event_life::{ends_after, is_live};
 use hazard_types::desk_hazards::facts;
 use hazard_types::{
-    Action, Category, End, Event, Hazard, Line, List, Minute, Oom, Row, Zone, is_flood,
+    Action, Category, End, Event, Hazard, Line, List, Minute, Oom, Row, Zone, is_fl_phenomenon,
 };
 use office_types::Intent;
 use std::alloc::Global;
@@ -168,7 +168,7 @@ fn add_lines_of(lines: &mut List<Line>, sending: &Sending, p: &Placed) -> Result
 }
 
 /// Adds the lines of all intents, in the order of places.
-fn add_spoken(lines: &mut List<Line>, sending: &Sending) -> Result<(), Oom>
+fn add_intent_lines(lines: &mut List<Line>, sending: &Sending) -> Result<(), Oom>
     ensures { OnOk result (lines.new ≡ lines.old
         ++ lines_from sending.now.rows sending.now.minute sending.now.intents sending.now.intents) }
 {
@@ -194,7 +194,7 @@ fn goes_on(category: Category, spoken: &Spoken, row: &Row) -> bool
     ensures { result ≡ goes_on category spoken.now row.now }
 {
     follows(category, &row.event.hazard)
-        && !is_flood(&row.event.hazard)
+        && !is_fl_phenomenon(&row.event.hazard)
         && spoken.touches(&row.zone)
         && !spoken.speaks(&row.event, &row.zone)
 }
@@ -240,7 +240,7 @@ fn add_in_zone(
     ensures order { IsStrictlySortedBy by_key sending.now.rows }
 {
     let t = sending.minute();
-    let rows = sending.board().live_slice(*zone, t);
+    let rows = sending.board().rows_in_zone_with_live(*zone, t);
     add_going_on(lines, category, t, sending.spoken(), rows)
 }
 
@@ -293,7 +293,7 @@ pub fn planned_lines(
         lines ≡ planned_lines category sending.now.rows sending.now.minute sending.now.intents) }
 {
     let mut lines = List::new(alloc);
-    add_spoken(&mut lines, sending)?;
+    add_intent_lines(&mut lines, sending)?;
     add_beside(alloc, &mut lines, sending, category)?;
     Ok(lines)
 }

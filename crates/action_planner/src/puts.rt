@@ -1,7 +1,7 @@
 //! The line, the period and the row of a put in a zone. An unended row is one that no line has
 //! ended.
 ghost use Rattle.std.specs.Prelude.{◌≡◌};
-ghost use Rattle.action_planner.specs.Lines.{minute_of, put_period, put_period_on, printed_begin, opening_action, opening_line_by, continuing_line, unless_ended, joined_row, put_line, row_by_put};
+ghost use Rattle.action_planner.specs.Lines.{minute_of, put_period, put_period_on, printed_begin, opening_action, opening_line_by, continuing_line, unless_ended, joined_row, put_line, row_after_put};
 
 use event_life::same_at;
 use hazard_board::Board;
@@ -147,8 +147,8 @@ pub fn put_line(
 }
 
 /// Returns the row that a put leaves in a zone.
-pub fn row_by_put(board: &Board, t: Minute, event: &Event, part: &PutPart, zone: &Zone) -> Row
-    ensures { result ≡ row_by_put board.now.rows t event.now part.now zone.now }
+pub fn row_after_put(board: &Board, t: Minute, event: &Event, part: &PutPart, zone: &Zone) -> Row
+    ensures { result ≡ row_after_put board.now.rows t event.now part.now zone.now }
 {
     let period = match joined_row(board, event, zone, &part.target) {
         None => put_period(part, t),

@@ -2,11 +2,11 @@
 ghost use Rattle.std.specs.Prelude.{◌≡◌, ◌&&◌, ◌||◌, [], true, map, IfOk, OnOk};
 ghost use Rattle.std.specs.List.{list_any};
 ghost use Rattle.event_life.specs.Higher.{outranks};
-ghost use Rattle.action_planner.specs.Lines.{is_left, row_by_put, rows_by_intent, rows_by_puts, overlays, is_overlaid};
+ghost use Rattle.action_planner.specs.Lines.{is_left, row_after_put, rows_by_intent, rows_by_puts, overlays, is_overlaid};
 ghost use Rattle.action_planner.specs.Sending.{Sending as Sent, rows_in, add_row, add_rows, add_by_puts, have_finish, is_finish};
 
 use crate::placed::Placed;
-use crate::puts::row_by_put;
+use crate::puts::row_after_put;
 use crate::spoken::Spoken;
 use event_life::{is_live, overlaps};
 use hazard_board::Board;
@@ -132,10 +132,10 @@ fn add_put(
     part: &PutPart,
 ) -> Result<(), Oom>
     ensures { OnOk result (zones.new.entries ≡ add_rows zones.old.entries
-        (map (row_by_put board.now.rows t event.now part.now) part.now.zones)) }
+        (map (row_after_put board.now.rows t event.now part.now) part.now.zones)) }
 {
     for zone in part.zones.as_slice() {
-        add_row(alloc, zones, &row_by_put(board, t, event, part, zone))?;
+        add_row(alloc, zones, &row_after_put(board, t, event, part, zone))?;
     }
     Ok(())
 }
@@ -269,7 +269,7 @@ impl<'a> Sending<'a> {
         requires { have_finish self.now.intents ≡ true }
         ensures { result ≡ is_overlaid self.now.rows self.now.minute self.now.intents row.now }
     {
-        let stand = self.board.live_slice(row.zone, self.minute);
+        let stand = self.board.rows_in_zone_with_live(row.zone, self.minute);
         let put = rows_in(&self.put, &row.zone);
         is_overlaid_by(self.minute, row, stand, put, self.spoken)
     }

@@ -8,7 +8,7 @@ ghost use Rattle.hazard_types.specs.Same.{same_zone};
 ghost use Rattle.action_planner.specs.Lines.{puts_or_finishes};
 ghost use Rattle.action_planner.specs.Offences.{is_shared};
 ghost use Rattle.action_planner.specs.Placed.{zones_of, touches, speaks};
-ghost use Rattle.action_planner.specs.Spoken.{speakers_with, add_spot, add_spots, spots_from, add_zones, zones_from, is_taken, has_other};
+ghost use Rattle.action_planner.specs.Spoken.{with_intent, add_spot, add_spots, spots_from, add_zones, zones_from, is_taken, has_other};
 
 use crate::placed::{Placed, zones_of};
 use hazard_types::{Event, List, Oom, Zone};
@@ -26,7 +26,7 @@ pub struct Spot {
 
 /// The intents that are on one event in one zone.
 #[derive(Clone, Copy)]
-pub struct Speakers {
+pub struct IntentsOn {
     /// The place of the first of them, counted from 0.
     pub first: usize,
     /// Whether one of them is at another place.
@@ -39,7 +39,7 @@ pub struct Speakers {
 #[derive(Drop)]
 pub struct Spoken<'a> {
     ps: &'a [Placed<'a>],
-    spots: BTreeMap<Spot, Speakers>,
+    spots: BTreeMap<Spot, IntentsOn>,
     zones: BTreeSet<Zone>,
 }
 
@@ -65,17 +65,17 @@ fn puts_or_finishes(intent: &Intent) -> bool
 }
 
 /// Returns the intents on an event in a zone after one more is added.
-fn speakers_with(held: Option<Speakers>, p: &Placed) -> Speakers
-    ensures { result ≡ speakers_with held p.now }
+fn with_intent(held: Option<IntentsOn>, p: &Placed) -> IntentsOn
+    ensures { result ≡ with_intent held p.now }
 {
     let taken = puts_or_finishes(p.intent);
     match held {
-        None => Speakers {
+        None => IntentsOn {
             first: p.place,
             others: false,
             taken,
         },
-        Some(held) => Speakers {
+        Some(held) => IntentsOn {
             first: held.first,
             others: held.others || held.first != p.place,
             taken: held.taken || taken,
@@ -84,7 +84,7 @@ fn speakers_with(held: Option<Speakers>, p: &Placed) -> Speakers
 }
 
 /// Whether one of these intents is at another place than `place`.
-fn has_other(held: Option<Speakers>, place: usize) -> bool
+fn has_other(held: Option<IntentsOn>, place: usize) -> bool
     ensures { result ≡ has_other place held }
 {
     match held {
@@ -94,20 +94,20 @@ fn has_other(held: Option<Speakers>, place: usize) -> bool
 }
 
 /// Adds an intent to those on its event in one zone.
-fn add_spot(spots: &mut BTreeMap<Spot, Speakers>, p: &Placed, zone: &Zone) -> Result<(), Oom>
+fn add_spot(spots: &mut BTreeMap<Spot, IntentsOn>, p: &Placed, zone: &Zone) -> Result<(), Oom>
     ensures { OnOk result (spots.new.entries ≡ add_spot spots.old.entries p.now zone.now) }
 {
     let spot = Spot {
         event: p.event,
         zone: *zone,
     };
-    let speakers = speakers_with(spots.get(&spot).copied(), p);
+    let speakers = with_intent(spots.get(&spot).copied(), p);
     spots.insert(spot, speakers)?;
     Ok(())
 }
 
 /// Adds an intent to those on its event in each of its zones.
-fn add_spots(spots: &mut BTreeMap<Spot, Speakers>, p: &Placed) -> Result<(), Oom>
+fn add_spots(spots: &mut BTreeMap<Spot, IntentsOn>, p: &Placed) -> Result<(), Oom>
     ensures { OnOk result
         (spots.new.entries ≡ add_spots spots.old.entries p.now (zones_of p.now.intent)) }
 {
@@ -118,7 +118,7 @@ fn add_spots(spots: &mut BTreeMap<Spot, Speakers>, p: &Placed) -> Result<(), Oom
 }
 
 /// Returns the intents on each event in each zone.
-fn spots_of(alloc: Global, ps: &[Placed]) -> Result<BTreeMap<Spot, Speakers>, Oom>
+fn spots_of(alloc: Global, ps: &[Placed]) -> Result<BTreeMap<Spot, IntentsOn>, Oom>
     ensures { IfOk result (λ spots. spots.entries ≡ spots_from [] ps.now) }
 {
     let mut spots = BTreeMap::new(alloc);
@@ -182,7 +182,7 @@ impl<'a> Spoken<'a> {
     }
 
     /// Returns the intents that are on the event in the zone.
-    fn speakers(&self, event: &Event, zone: &Zone) -> Option<Speakers>
+    fn speakers(&self, event: &Event, zone: &Zone) -> Option<IntentsOn>
         ensures spoken { is_some result ≡ list_any (speaks event.now zone.now) self.now }
         ensures taken { is_taken result
             ≡ list_any (λ p. puts_or_finishes p.intent && speaks event.now zone.now p) self.now }

@@ -4,7 +4,7 @@ ghost use Rattle.byte_streams.specs.Flows.{streams};
 ghost use Rattle.program_ends.specs.Lines.{most_bytes};
 ghost use Rattle.archive_report.specs.Runs.{DoesAsAsked};
 
-use crate::report::tell_report;
+use crate::report::write_report;
 use crate::words::asked_of;
 use byte_streams::{Sink, Source};
 use hazard_types::{List, Text};
@@ -33,7 +33,7 @@ pub fn archive_within<S: Source, K: Sink>(
     let Some(asked) = asked_of(words) else {
         return end_at_once(output, End::Usage);
     };
-    match tell_report(alloc, &asked, limit, input, output) {
+    match write_report(alloc, &asked, limit, input, output) {
         Ok(0) => 0,
         Ok(_listed) => LISTED,
         Err(stop) => end_run(output, Some(End::from(stop))),

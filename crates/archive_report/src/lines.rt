@@ -8,7 +8,7 @@ use crate::counts::count_by_frame;
 use crate::tally::Reading;
 use crate::texts::{breach_name, put_fault, put_stamp, put_where};
 use crate::words::Asked;
-use hazard_types::{Minute, Oom, Text, hazard_text, put_number, put_wide};
+use hazard_types::{Minute, Oom, Text, hazard_text, push_four_digits_or_more, put_number};
 use product_decoder::{Found, GapFound};
 use product_frame::{Frame, FrameFault};
 use std::alloc::Global;
@@ -111,7 +111,7 @@ fn put_spaced(alloc: Global, out: &mut Text, n: u16) -> Result<(), Oom>
     ensures { OnOk result (out.new ≡ out.old ++ spaced n) }
 {
     out.push(b' ')?;
-    put_wide(alloc, out, n)
+    push_four_digits_or_more(alloc, out, n)
 }
 
 /// Adds the line `gap HAZARD YEAR WANTED FOUND`.

@@ -20,7 +20,7 @@ use std::alloc::Global;
 ///
 /// `Stop::Read` or `Stop::Write` if a read or a write failed, `Stop::TooLong` if the input has more
 /// than `limit` bytes, and `Stop::OutOfMemory`. What was written begins the report in each case.
-pub fn tell_report<S: Source, K: Sink>(
+pub fn write_report<S: Source, K: Sink>(
     alloc: Global,
     asked: &Asked,
     limit: usize,

@@ -22,8 +22,8 @@ use Rattle.event_life.specs.Higher.{family_of, is_above, may_yield, outranks}
 use Rattle.event_life.specs.Lives.{judged_product}
 use Rattle.event_life.specs.Openings.{add_event, event_placed, is_numbered, numbers_of, opened_by, opened_from}
 use Rattle.event_life.specs.Periods.{is_live, overlaps}
-use Rattle.event_life.specs.Products.{Product, around_but_higher, breach_in, by_key, end_upgraded, event_of, event_of_issue, going_in, has_higher, is_new, is_overlapped, is_routine, is_second, is_upgrade, judged, judged_from, lawful_of, life_at, line_of, lines_of, put, put_all, put_but_upgrades, row_after, row_at, row_of, rows_after, rows_for_higher, rows_with, speaks_of}
-use Rattle.event_life.specs.Table.{breach_of_line, life_after}
+use Rattle.event_life.specs.Products.{Product, around_but_higher, breach_in, by_key, end_upgraded, event_of, event_of_issue, going_in, has_higher, is_new, is_overlapped, is_routine, is_second, is_upgrade, judged, judged_from, lawful_of, life_at, line_of, lines_of, put, put_all, rows_after_all_but_upgrades, row_after, row_at, row_of, rows_after, rows_for_higher, rows_with, concerns}
+use Rattle.event_life.specs.Table.{breach_of_line, life_after_lawful_line}
 use Rattle.event_life.proofs.Puts.{put-sorted, rows_after-sorted}
 use Rattle.county_notices.specs.Apart.{AreMerged, IsOfDesk, IsOfOthers, desks_events, is_desks}
 use Rattle.county_notices.proofs.ApartRows.{any_kept, going_kept, has_kept, held_kept, is_kept, keep, life_kept, open_kept, put_kept, put_other, row_kept, same_kept}
@@ -52,7 +52,7 @@ overlapped_kept rows t None = refl
 overlapped_kept rows t (Some own) = any_kept (λ (r : Row). same_zone r.zone own.zone && is_live t r && outranks r.event.hazard own.event.hazard && overlaps r.period own.period)
     (λ r h. above_has r.event.hazard own.event.hazard (and_parts (same_zone r.zone own.zone && is_live t r) _ (and_parts (same_zone r.zone own.zone && is_live t r && outranks r.event.hazard own.event.hazard) _ h).0).1) rows
 
-upgraded_by : (lines : List Line) (r : Row) (rows : List Row) (u k : Bool) → list_any (λ (line : Line). is_upgrade line.action && speaks_of r.event r.zone line) lines ≡ u → is_kept r ≡ k →
+upgraded_by : (lines : List Line) (r : Row) (rows : List Row) (u k : Bool) → list_any (λ (line : Line). is_upgrade line.action && concerns r.event r.zone line) lines ≡ u → is_kept r ≡ k →
     keep (end_upgraded lines rows) ≡ end_upgraded lines (keep rows) →
     keep (cond u (record { event = r.event; zone = r.zone; period = r.period; flood = r.flood; ended = true }) r ∷ end_upgraded lines rows) ≡ end_upgraded lines (cond k (r ∷ keep rows) (keep rows))
 upgraded_by lines r rows true true is kind more = rw (kind, is) (ap (λ (rs : List Row). record { event = r.event; zone = r.zone; period = r.period; flood = r.flood; ended = true } ∷ rs) more)
@@ -62,7 +62,7 @@ upgraded_by lines r rows false false is kind more = rw kind more
 
 upgraded_kept : (lines : List Line) (rows : List Row) → keep (end_upgraded lines rows) ≡ end_upgraded lines (keep rows)
 upgraded_kept lines [] = refl
-upgraded_kept lines (r ∷ rows) = upgraded_by lines r rows (list_any (λ (line : Line). is_upgrade line.action && speaks_of r.event r.zone line) lines) (is_kept r) refl refl (upgraded_kept lines rows)
+upgraded_kept lines (r ∷ rows) = upgraded_by lines r rows (list_any (λ (line : Line). is_upgrade line.action && concerns r.event r.zone line) lines) (is_kept r) refl refl (upgraded_kept lines rows)
 
 module _ (rows : List Row) (t : ℕ) where
   around_kept : (line : Line) (b : Bool) → IsOwn line → around_but_higher (keep rows) t line b ≡ around_but_higher rows t line b
@@ -81,7 +81,7 @@ module _ (rows : List Row) (t : ℕ) where
       λ i. breach_of_line (life i) line t (around i)
 
   after_kept : (line : Line) → IsOwn line → row_after (keep rows) t line ≡ row_after rows t line
-  after_kept line own = ap (λ (o : Option Life). row_of line (life_after o line t)) (life_kept rows t line own)
+  after_kept line own = ap (λ (o : Option Life). row_of line (life_after_lawful_line o line t)) (life_kept rows t line own)
 
   but_upgrades_by : (earlier : List Line) (line : Line) (lines : List Line) (after : List Row) (b : Bool) → IsOwn line → IsStrictlySortedBy by_key after →
       keep (cond b (put (row_after rows t line) after) after) ≡ cond b (put (row_after (keep rows) t line) (keep after)) (keep after)
@@ -93,19 +93,19 @@ module _ (rows : List Row) (t : ℕ) where
   sorted_by line after false up = up
 
   but_upgrades_kept : (earlier lines : List Line) (after : List Row) → AllByRecursion IsOwn lines → IsStrictlySortedBy by_key after →
-      keep (put_but_upgrades rows t earlier lines after) ≡ put_but_upgrades (keep rows) t earlier lines (keep after)
+      keep (rows_after_all_but_upgrades rows t earlier lines after) ≡ rows_after_all_but_upgrades (keep rows) t earlier lines (keep after)
   but_upgrades_kept earlier [] after own up = refl
   but_upgrades_kept earlier (line ∷ lines) after own up =
       let test : Option Breach → Bool = λ o. not (is_routine line.action) && not (is_upgrade line.action) && not (is_second earlier line) && is_none o in
       let b = test (breach_of_line (life_at rows line) line t (around_but_higher rows t line true)) in
       let same : b ≡ test (breach_of_line (life_at (keep rows) line) line t (around_but_higher (keep rows) t line true)) = ap test (sym (breach_kept line true own.0)) in
       but_upgrades_kept (earlier ++ line ∷ []) lines (cond b (put (row_after rows t line) after) after) own.1 (sorted_by line after b up)
-      ∙ ap (put_but_upgrades (keep rows) t (earlier ++ line ∷ []) lines) (but_upgrades_by earlier line lines after b own.0 up
+      ∙ ap (rows_after_all_but_upgrades (keep rows) t (earlier ++ line ∷ []) lines) (but_upgrades_by earlier line lines after b own.0 up
       ∙ ap (λ (x : Bool). cond x (put (row_after (keep rows) t line) (keep after)) (keep after)) same)
 
   module _ (up : IsStrictlySortedBy by_key rows) where
     for_higher_kept : (lines : List Line) → AllByRecursion IsOwn lines → keep (rows_for_higher rows t lines) ≡ rows_for_higher (keep rows) t lines
-    for_higher_kept lines own = upgraded_kept lines (put_but_upgrades rows t [] lines rows) ∙ ap (end_upgraded lines) (but_upgrades_kept [] lines rows own up)
+    for_higher_kept lines own = upgraded_kept lines (rows_after_all_but_upgrades rows t [] lines rows) ∙ ap (end_upgraded lines) (but_upgrades_kept [] lines rows own up)
 
     higher_kept : (lines : List Line) (line : Line) → AllByRecursion IsOwn lines → IsOwn line → has_higher (keep rows) t lines line ≡ has_higher rows t lines line
     higher_kept lines line own mine =

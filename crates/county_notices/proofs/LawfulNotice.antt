@@ -18,7 +18,7 @@ use Rattle.event_life.specs.Higher.{are_kin}
 use Rattle.event_life.specs.Periods.{is_live, overlaps}
 use Rattle.event_life.specs.Products.{has_higher, is_new, is_routine, life_of, row_after, row_at, rows_after}
 use Rattle.event_life.specs.Reordered.{are_lawful}
-use Rattle.event_life.specs.Table.{flood_after, left_of_life, life_after}
+use Rattle.event_life.specs.Table.{flood_after, life_after_line, life_after_lawful_line}
 use Rattle.event_life.proofs.LawfulLemmas.{touches}
 use Rattle.event_life.proofs.Puts.{at_key, rows_after-sorted}
 use Rattle.hazard_board.specs.Clashes.{clash, clashes, least_clash}
@@ -74,7 +74,7 @@ no_flood : (old line : Option Flood) → old ≡ None → line ≡ None → floo
 no_flood None line h g = g
 no_flood (Some old) line h g = cc
 
-left_dry : (a : Action) (life : Life) (line : Line) (t : ℕ) → life.flood ≡ None → line.flood ≡ None → (left_of_life a life line t).flood ≡ None
+left_dry : (a : Action) (life : Life) (line : Line) (t : ℕ) → life.flood ≡ None → line.flood ≡ None → (life_after_line a life line t).flood ≡ None
 left_dry Con life line t was own = no_flood life.flood line.flood was own
 left_dry Cor life line t was own = no_flood life.flood line.flood was own
 left_dry Ext life line t was own = no_flood life.flood line.flood was own
@@ -83,8 +83,8 @@ left_dry Exp life line t was own = no_flood life.flood line.flood was own
 left_dry Upg life line t was own = no_flood life.flood line.flood was own
 left_dry _ life line t was own = own
 
-life_dry : (o : Option Row) (line : Line) (t : ℕ) → ((row : Row) → o ≡ Some row → row.flood ≡ None) → line.flood ≡ None → (life_after (option_map life_of o) line t).flood ≡ None
-unfolding life_after
+life_dry : (o : Option Row) (line : Line) (t : ℕ) → ((row : Row) → o ≡ Some row → row.flood ≡ None) → line.flood ≡ None → (life_after_lawful_line (option_map life_of o) line t).flood ≡ None
+unfolding life_after_lawful_line
 life_dry None line t was own = own
 life_dry (Some row) line t was own = left_dry line.action (life_of row) line t (was row refl) own
 

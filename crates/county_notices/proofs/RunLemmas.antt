@@ -25,7 +25,7 @@ use Rattle.county_notices.specs.NoticeRuns.{AreTold, DoesAsAsked, IsNoticeRun, T
 use Rattle.county_notices.specs.Notices.{IsNotice, text_of}
 use Rattle.county_notices.specs.Reading.{IsHistory, Noted, products_read}
 use Rattle.county_notices.specs.Standing.{IsStanding}
-use Rattle.county_notices.specs.Words.{issuer_of}
+use Rattle.county_notices.specs.Words.{parse_issuer}
 use Rattle.county_notices.specs.declared.issuer.Issuer.{Issuer}
 use Rattle.county_notices.proofs.ApartProducts.{merged}
 use Rattle.county_notices.proofs.HistoryLemmas.{history_read}
@@ -167,7 +167,7 @@ not_two end (inr (inr (inl e))) own = omega (arith, own, ap own_status e)
 not_two end (inr (inr (inr (inl e)))) own = omega (arith, own, ap own_status e)
 not_two end (inr (inr (inr (inr e)))) own = omega (arith, own, ap own_status e)
 
-pub does_notices : (words : List (List ℕ)) (by : Issuer) (limit : ℕ) (before after : Streams) (status : ℕ) → issuer_of words ≡ Some by →
+pub does_notices : (words : List (List ℕ)) (by : Issuer) (limit : ℕ) (before after : Streams) (status : ℕ) → parse_issuer words ≡ Some by →
     IsNoticeRun by limit before after status → DoesAsAsked words limit before after status
 does_notices words by limit before after status is run = record {
   run = rw is run;
@@ -177,7 +177,7 @@ does_notices words by limit before after status is run = record {
   complete = λ some none quiet. run.run.complete none quiet;
 }
 
-pub does_usage : (words : List (List ℕ)) (limit : ℕ) (before after : Streams) (status : ℕ) → issuer_of words ≡ None →
+pub does_usage : (words : List (List ℕ)) (limit : ℕ) (before after : Streams) (status : ℕ) → parse_issuer words ≡ None →
     IsUsage before after status → DoesAsAsked words limit before after status
 does_usage words limit before after status is run = record {
   run = rw is run;

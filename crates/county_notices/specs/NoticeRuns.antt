@@ -16,7 +16,7 @@ use Rattle.county_notices.specs.Apart.{AreMerged, IsOfDesk, desks_events}
 use Rattle.county_notices.specs.Commands.{Noticed}
 use Rattle.county_notices.specs.NoticeHistory.{first}
 use Rattle.county_notices.specs.Reading.{IsHistory, Noted, ReadsAsNoted, products_read}
-use Rattle.county_notices.specs.Words.{issuer_of}
+use Rattle.county_notices.specs.Words.{parse_issuer}
 use Rattle.county_notices.specs.declared.issuer.Issuer.{Issuer}
 
 -- ---- the notices among the answers
@@ -70,11 +70,11 @@ pub record IsNoticeRun (by : Issuer) (limit : ℕ) (before after : Streams) (sta
 -- What the words ask for was done: an office and a zone ask for notices, and other words for their usage.
 pub record DoesAsAsked (words : List (List ℕ)) (limit : ℕ) (before after : Streams) (status : ℕ) : Type 0 where
   -- What was read and written, for each status.
-  pub run : MatchOption (issuer_of words) (IsUsage before after status) (λ by. IsNoticeRun by limit before after status)
+  pub run : MatchOption (parse_issuer words) (IsUsage before after status) (λ by. IsNoticeRun by limit before after status)
   -- Other words alone end with 2.
-  pub usage : status ≡ 2 → IsNone (issuer_of words)
+  pub usage : status ≡ 2 → IsNone (parse_issuer words)
   -- A fault is told only where a count rose.
   pub read_fault : status ≡ 7 → Rose before.input.faults after.input.faults
   pub write_fault : status ≡ 8 → Rose before.output.faults after.output.faults
   -- Where no count rose, each line of an input within the limit is answered, or memory lacked, or the input is too long.
-  pub complete : IsSome (issuer_of words) → ¬ Rose before.input.faults after.input.faults → ¬ Rose before.output.faults after.output.faults → (status ≡ 0) ⊎ (status ≡ 12) ⊎ (status ≡ 13)
+  pub complete : IsSome (parse_issuer words) → ¬ Rose before.input.faults after.input.faults → ¬ Rose before.output.faults after.output.faults → (status ≡ 0) ⊎ (status ≡ 12) ⊎ (status ≡ 13)

@@ -11,8 +11,8 @@ issuer_by office None = None
 issuer_by office (Some zone) = Some (record { office = office; zone = zone })
 
 -- the office and the zone of `OFFICE ZONE`, which are all the words
-unfoldable pub issuer_of : List (List ℕ) → Option Issuer
-issuer_of [] = None
-issuer_of (a ∷ []) = None
-issuer_of (a ∷ b ∷ []) = if is_office a then issuer_by a (local_zone_in b) else None
-issuer_of (a ∷ b ∷ c ∷ more) = None
+unfoldable pub parse_issuer : List (List ℕ) → Option Issuer
+parse_issuer [] = None
+parse_issuer (a ∷ []) = None
+parse_issuer (a ∷ b ∷ []) = if is_office a then issuer_by a (local_zone_in b) else None
+parse_issuer (a ∷ b ∷ c ∷ more) = None

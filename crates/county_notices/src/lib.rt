@@ -18,4 +18,4 @@ pub use laws::{
     accepted_commands_keep_the_rows, notices_leave_the_desks_numbers, notices_read_as_noted,
 };
 pub use notices::Notices;
-pub use run::{notice_run, notice_within, run_program};
+pub use run::{notice_run, run_notices, run_program};

@@ -9,7 +9,7 @@ ghost use Rattle.county_notices.specs.NoticeRuns.{DoesAsAsked, IsNoticeRun};
 
 use crate::issuer::Issuer;
 use crate::notices::Notices;
-use crate::words::issuer_of;
+use crate::words::parse_issuer;
 use byte_streams::{Sink, Source};
 use hazard_types::{List, Text};
 use program_ends::{End, LIMIT, end_at_once, run_lines};
@@ -40,7 +40,7 @@ fn answer_lines<S: Source, K: Sink>(
 
 /// Does what the words `OFFICE ZONE` ask for, with an input of at most `limit` bytes, and returns
 /// the exit status.
-pub fn notice_within<S: Source, K: Sink>(
+pub fn run_notices<S: Source, K: Sink>(
     alloc: Global,
     words: &List<Text>,
     input: &mut S,
@@ -52,7 +52,7 @@ pub fn notice_within<S: Source, K: Sink>(
         (streams (S.inflow input.old) (K.outflow output.old))
         (streams (S.inflow input.new) (K.outflow output.new)) result }
 {
-    match issuer_of(words) {
+    match parse_issuer(words) {
         Some(issuer) => answer_lines(alloc, issuer, input, output, limit),
         None => end_at_once(output, End::Usage),
     }
@@ -72,7 +72,7 @@ pub fn notice_run<S: Source, K: Sink>(
         (streams (S.inflow input.old) (K.outflow output.old))
         (streams (S.inflow input.new) (K.outflow output.new)) result }
 {
-    notice_within(alloc, words, input, output, LIMIT)
+    run_notices(alloc, words, input, output, LIMIT)
 }
 
 /// Does what the words after the program's name ask for. If memory runs out for the words, the

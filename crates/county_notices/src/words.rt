@@ -2,7 +2,7 @@
 ghost use Rattle.std.specs.Prelude.{◌≡◌, IfSome, IsTrue};
 ghost use Rattle.hazard_types.specs.Characters.{is_office};
 ghost use Rattle.desk_settings.specs.Forms.{local_zone_in};
-ghost use Rattle.county_notices.specs.Words.{issuer_of};
+ghost use Rattle.county_notices.specs.Words.{parse_issuer};
 
 use crate::issuer::Issuer;
 use hazard_types::{List, LocalZone, Text};
@@ -36,9 +36,9 @@ fn local_zone_in(word: &[u8]) -> Option<LocalZone>
 }
 
 /// Parses the words `OFFICE ZONE`; `None` if they are not exactly these two.
-#[tactic(auto, unfolding(crate::specs::Words::issuer_of))]
-pub fn issuer_of(words: &List<Text>) -> Option<Issuer>
-    ensures value { result ≡ issuer_of words.now }
+#[tactic(auto, unfolding(crate::specs::Words::parse_issuer))]
+pub fn parse_issuer(words: &List<Text>) -> Option<Issuer>
+    ensures value { result ≡ parse_issuer words.now }
     ensures office { IfSome result (λ by. IsTrue (is_office by.office)) }
 {
     let [office, zone] = words.as_slice() else {

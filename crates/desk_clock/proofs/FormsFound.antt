@@ -14,8 +14,8 @@ use Rattle.desk_clock.specs.declared.reading.LocalFault.{LocalFault}
 use Rattle.desk_clock.specs.declared.reading.LocalFault.TheVariants.{NoLocalTime, UnknownAbbreviation}
 use Rattle.desk_clock.specs.Abbreviations.{hours_behind}
 use Rattle.desk_clock.specs.LocalForm.{IsForm, ReadsAs, LacksAbbreviation, HasDate, written_in, of_written, minute_of, minute_by, or_no_time, read_of}
-use Rattle.desk_clock.specs.LocalTimes.{local_time, shown_at, shown_of, minute_shown, minute_behind, in_2000, is_last_of_1999, has_date}
-use Rattle.desk_clock.specs.LocalWords.{words_say, date_said, year_said, time_said, number_of, are_letters}
+use Rattle.desk_clock.specs.LocalTimes.{local_time, shown_at, local_minutes, minute_shown, minute_behind, in_2000, is_last_of_1999, has_date}
+use Rattle.desk_clock.specs.LocalWords.{words_say, date_said, year_said, parse_time_of_day, number_of, are_letters}
 use Rattle.desk_clock.specs.Names.{place_of, month_names, weekday_names}
 use Rattle.std.specs.Option.{is_some}
 use Rattle.desk_clock.specs.Words.{first_word, after_word, after_aside}
@@ -40,7 +40,7 @@ no_year letters month day time = always_none {A = ℕ} _ (place_of month_names m
 
 no_words : (clock half letters weekday month day : List ℕ) → words_say clock half letters weekday month day [] ≡ None
 unfolding words_say
-no_words clock half letters weekday month day = guarded (are_letters letters && is_some (place_of weekday_names weekday)) _ (always_none {A = ℕ × ℕ} _ (time_said clock half) (λ time. no_year letters month day time))
+no_words clock half letters weekday month day = guarded (are_letters letters && is_some (place_of weekday_names weekday)) _ (always_none {A = ℕ × ℕ} _ (parse_time_of_day clock half) (λ time. no_year letters month day time))
 
 year_there : (clock half letters weekday month day year : List ℕ) (w : Written) → words_say clock half letters weekday month day year ≡ Some w → year ≢ []
 year_there clock half letters weekday month day year w h e =
@@ -107,8 +107,8 @@ civil_time t s low is e =
     let year : 2000 + (t.year - 2000) ≡ t.year = omega arith in
     rw (le-ltb s 1440 (omega arith), rest, civil_found (in_2000 t) is) (λ i. record { year = year i; month = t.month; day = t.day; hour = t.hour; minute = t.minute })
 
-local_of : (t : LocalTime) (s : ℕ) → shown_of t ≡ Some s → local_time s ≡ t
-unfolding shown_of
+local_of : (t : LocalTime) (s : ℕ) → local_minutes t ≡ Some s → local_time s ≡ t
+unfolding local_minutes
 local_of t s h =
     elim (split (is_last_of_1999 t)) [
       | inl last ↦ let same : Some (60 * t.hour + t.minute) ≡ Some s = rw last at h in last_time t s last (cc)
@@ -132,7 +132,7 @@ behind_is hours s m most h =
 
 shown_in : (a : Abbreviation) (t : LocalTime) (m : ℕ) → minute_shown a t ≡ Some m → Shown a t m
 unfolding minute_shown
-shown_in a t m h = option_and_then_some (minute_behind (hours_behind a)) (shown_of t) m h (λ s e found.
+shown_in a t m h = option_and_then_some (minute_behind (hours_behind a)) (local_minutes t) m h (λ s e found.
     let at = behind_is (hours_behind a) s m (most_behind a) found in
     (at.0, ap local_time at.1 ∙ local_of t s e))
 

@@ -16,7 +16,7 @@ use Rattle.desk_clock.specs.LocalForm.{IsForm, minute_of, read_of}
 use Rattle.desk_clock.specs.LocalText.{one_or_two, clock_hour, half_day, short_of, line_of, local_line_of}
 use Rattle.hazard_types.specs.Calendar.{two}
 use Rattle.hazard_types.specs.Digits.{four_digits}
-use Rattle.desk_clock.specs.LocalTimes.{local_time, shown_at, shown_of, minute_shown, minute_behind, in_2000, from_2000, on_last_day_of_1999, IsShown}
+use Rattle.desk_clock.specs.LocalTimes.{local_time, shown_at, local_minutes, minute_shown, minute_behind, in_2000, from_2000, on_last_day_of_1999, IsShown}
 use Rattle.desk_clock.specs.LocalWords.{words_say, date_said}
 use Rattle.desk_clock.specs.Names.{month_name, weekday_name}
 use Rattle.desk_clock.specs.Words.{begins_with, IsWord}
@@ -130,8 +130,8 @@ form_of a shown is =
     }
 
 -- what a clock shows is shown in that minute alone
-pub shown_back : (shown : ℕ) → shown < 52597440 → shown_of (local_time shown) ≡ Some shown
-unfolding local_time shown_of
+pub shown_back : (shown : ℕ) → shown < 52597440 → local_minutes (local_time shown) ≡ Some shown
+unfolding local_time local_minutes
 shown_back shown below =
     elim (cases_lt shown 1440) [
       | inl lt ↦ rw (lt-ltb shown 1440 lt, last_tested (on_last_day_of_1999 shown) refl refl refl (omega arith) (omega arith)) (ap (λ (n : ℕ). Some n) (omega arith))

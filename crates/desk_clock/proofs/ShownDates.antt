@@ -10,7 +10,7 @@ use Rattle.jiff_core.proofs.SignedLemmas.{signed_arith}
 use Rattle.hazard_types.specs.declared.calendar.Civil.{Civil}
 use Rattle.hazard_types.specs.Calendar.{IsCivil, is_civil, minute_of, month_lengths, days_before_year, days_before_month}
 use Rattle.desk_clock.specs.declared.local_times.LocalTime.{LocalTime}
-use Rattle.desk_clock.specs.LocalTimes.{in_2000, is_last_of_1999, shown_of, has_date}
+use Rattle.desk_clock.specs.LocalTimes.{in_2000, is_last_of_1999, local_minutes, has_date}
 use Rattle.desk_clock.proofs.Calendars.{day_number, same_month_length, late_1999, last_epoch}
 use Rattle.hazard_types.proofs.Years.{days_fit}
 
@@ -69,8 +69,8 @@ epoch_is t d parts low is =
     let same : pos t.year ≡ pos (2000 + (t.year - 2000)) = ap pos (omega arith) in
     rw (parts.year, parts.month, parts.day, same) (day_number (in_2000 t) is)
 
-pub from_date : (t : LocalTime) (d : Date) (days : ℕ) → Parts t d → 1999 ≤ t.year → t.year ≤ 2099 → t.hour < 24 → t.minute < 60 → epoch_day d ≡ pos (10956 + days) → (shown_of t ≡ Some (days * 1440 + t.hour * 60 + t.minute)) × (days < 36526)
-unfolding shown_of
+pub from_date : (t : LocalTime) (d : Date) (days : ℕ) → Parts t d → 1999 ≤ t.year → t.year ≤ 2099 → t.hour < 24 → t.minute < 60 → epoch_day d ≡ pos (10956 + days) → (local_minutes t ≡ Some (days * 1440 + t.hour * 60 + t.minute)) × (days < 36526)
+unfolding local_minutes
 from_date t d days parts low high hour minute e =
     elim (cases_lt t.year 2000) [
       | inl lt ↦
@@ -125,8 +125,8 @@ shows_civil t low is =
       late = λ d parts. let e = epoch_is t d parts low is in omega (arith, signed_arith, e);
     }
 
-pub shown_is : (t : LocalTime) (s : ℕ) → shown_of t ≡ Some s → Shows t
-unfolding shown_of
+pub shown_is : (t : LocalTime) (s : ℕ) → local_minutes t ≡ Some s → Shows t
+unfolding local_minutes
 shown_is t s h =
     elim (split (is_last_of_1999 t)) [
       | inl last ↦ shows_last t last

@@ -9,8 +9,8 @@ use Rattle.desk_clock.specs.Abbreviations.{letters_of}
 use Rattle.desk_clock.specs.LocalText.{one_or_two, clock_hour, half_day}
 use Rattle.hazard_types.specs.Calendar.{two}
 use Rattle.hazard_types.specs.Digits.{four_digits}
-use Rattle.desk_clock.specs.LocalWords.{digit, number_of, half_of, time_of, time_said, year_said, are_letters}
-use Rattle.desk_clock.specs.Names.{month_names, weekday_names, abbreviations, abbreviation_named, place_of}
+use Rattle.desk_clock.specs.LocalWords.{digit, number_of, half_of, time_of, parse_time_of_day, year_said, are_letters}
+use Rattle.desk_clock.specs.Names.{month_names, weekday_names, abbreviations, parse_abbreviation, place_of}
 use Rattle.desk_clock.specs.Words.{begins_with}
 use Rattle.hazard_types.specs.Characters.{is_blank}
 
@@ -50,8 +50,8 @@ time_back hour minute h n =
 clock_range : (hour : ℕ) → (1 ≤ clock_hour hour) × (clock_hour hour ≤ 12)
 clock_range hour = (grind (arith, nat_tests), grind (arith, nat_tests))
 
-pub clock_said : (hour minute : ℕ) → hour < 24 → minute < 60 → time_said (one_or_two (clock_hour hour) ++ two minute []) (half_day hour) ≡ Some (hour, minute)
-unfolding time_said
+pub clock_said : (hour minute : ℕ) → hour < 24 → minute < 60 → parse_time_of_day (one_or_two (clock_hour hour) ++ two minute []) (half_day hour) ≡ Some (hour, minute)
+unfolding parse_time_of_day
 clock_said hour minute h n =
     let range = clock_range hour in
     let minutes = number_two minute (minute / 10) (minute % 10) (omega arith) (omega arith) (omega arith) in
@@ -74,7 +74,7 @@ year_back y h =
     let year = number_two (y % 100) (y / 10 % 10) (y % 10) (omega arith) (omega arith) (omega arith) in
     rw (century, year) (ap (λ (x : ℕ). Some x) (omega arith))
 
-pub letters_back : (a : Abbreviation) → abbreviation_named (letters_of a) ≡ Some a
+pub letters_back : (a : Abbreviation) → parse_abbreviation (letters_of a) ≡ Some a
 unfolding abbreviations
 letters_back Ast = refl
 letters_back Est = refl

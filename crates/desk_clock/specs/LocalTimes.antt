@@ -38,8 +38,8 @@ abbrev pub is_last_of_1999 : LocalTime → Bool
 is_last_of_1999 t = (t.year == 1999) && (t.month == 12) && (t.day == 31) && nat_lt t.hour 24 && nat_lt t.minute 60
 
 -- the minutes since the beginning of 1999-12-31 at which a clock shows this
-unfoldable pub shown_of : LocalTime → Option ℕ
-shown_of t =
+unfoldable pub local_minutes : LocalTime → Option ℕ
+local_minutes t =
     if is_last_of_1999 t then Some (60 * t.hour + t.minute)
     else if nat_le 2000 t.year && is_civil (in_2000 t) then Some (1440 + minute_of (in_2000 t))
     else None
@@ -49,7 +49,7 @@ minute_behind hours shown = if nat_le 1440 (shown + 60 * hours) && nat_lt (shown
 
 -- the minute in which a clock of this abbreviation shows this
 unfoldable pub minute_shown : Abbreviation → LocalTime → Option ℕ
-minute_shown a t = option_and_then (minute_behind (hours_behind a)) (shown_of t)
+minute_shown a t = option_and_then (minute_behind (hours_behind a)) (local_minutes t)
 
 -- the calendar has the date, in a year from 1999 to 2099
 unfoldable pub has_date : LocalTime → Bool

@@ -4,7 +4,7 @@ use Rattle.std.specs.List.{list_all}
 use Rattle.std.specs.Option.{option_and_then}
 use Rattle.std.specs.Char.{is_ascii_alphabetic, is_ascii_digit}
 use Rattle.desk_clock.specs.declared.reading.Written.{Written}
-use Rattle.desk_clock.specs.Names.{same_letters, place_of, month_names, weekday_names, abbreviation_named}
+use Rattle.desk_clock.specs.Names.{same_letters, place_of, month_names, weekday_names, parse_abbreviation}
 
 abbrev pub digit : ℕ → Option ℕ
 digit c = if is_ascii_digit c then Some (c - 48) else None
@@ -27,8 +27,8 @@ abbrev pub time_of : ℕ → ℕ → ℕ → Option (ℕ × ℕ)
 time_of hour minute half = if nat_le 1 hour && nat_le hour 12 && nat_lt minute 60 then Some (hour % 12 + half, minute) else None
 
 -- the hour, one or two digits, then two digits of the minute; and the half of the day
-unfoldable pub time_said : List ℕ → List ℕ → Option (ℕ × ℕ)
-time_said clock half =
+unfoldable pub parse_time_of_day : List ℕ → List ℕ → Option (ℕ × ℕ)
+parse_time_of_day clock half =
     option_and_then (λ hour. option_and_then (λ minute. option_and_then (λ h. time_of hour minute h) (half_of half)) (number_of (drop (length clock - 2) clock))) (number_of (take (length clock - 2) clock))
 
 -- a year of four digits
@@ -41,7 +41,7 @@ are_letters word = nat_le 1 (length word) && list_all is_ascii_alphabetic word
 
 abbrev pub dated : List ℕ → ℕ → ℕ → ℕ → ℕ × ℕ → Written
 dated letters month day year time =
-    record { abbreviation = abbreviation_named letters; time = record { year = year; month = month + 1; day = day; hour = time.0; minute = time.1 } }
+    record { abbreviation = parse_abbreviation letters; time = record { year = year; month = month + 1; day = day; hour = time.0; minute = time.1 } }
 
 unfoldable pub date_said : List ℕ → List ℕ → List ℕ → List ℕ → ℕ × ℕ → Option Written
 date_said letters month day year time =
@@ -51,5 +51,5 @@ date_said letters month day year time =
 unfoldable pub words_say : List ℕ → List ℕ → List ℕ → List ℕ → List ℕ → List ℕ → List ℕ → Option Written
 words_say clock half letters weekday month day year =
     if are_letters letters && is_some (place_of weekday_names weekday)
-    then option_and_then (λ time. date_said letters month day year time) (time_said clock half)
+    then option_and_then (λ time. date_said letters month day year time) (parse_time_of_day clock half)
     else None

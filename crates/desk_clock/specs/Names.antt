@@ -31,5 +31,5 @@ abbrev pub place_of : List (List ℕ) → List ℕ → Option ℕ
 place_of names word = position (λ (name : List ℕ). same_letters word name) names
 
 -- the abbreviation with these letters
-abbrev pub abbreviation_named : List ℕ → Option Abbreviation
-abbreviation_named word = find (λ (a : Abbreviation). same_letters word (letters_of a)) abbreviations
+abbrev pub parse_abbreviation : List ℕ → Option Abbreviation
+parse_abbreviation word = find (λ (a : Abbreviation). same_letters word (letters_of a)) abbreviations

@@ -6,7 +6,7 @@ ghost use Rattle.jiff_core.specs.Date.{epoch_day};
 ghost use Rattle.jiff_core.specs.Weekday.{monday_zero};
 ghost use Rattle.hazard_types.specs.Calendar.{IsCivil, minute_of};
 ghost use Rattle.hazard_types.specs.declared.calendar.Civil.{Civil};
-ghost use Rattle.desk_clock.specs.LocalTimes.{local_time, IsShown, has_date, shown_of, minute_shown};
+ghost use Rattle.desk_clock.specs.LocalTimes.{local_time, IsShown, has_date, local_minutes, minute_shown};
 
 use crate::abbreviations::Abbreviation;
 use hazard_types::Minute;
@@ -91,8 +91,8 @@ pub fn has_date(t: LocalTime) -> bool
 
 /// Returns the minutes from 1999-12-31T00:00 to `t`, both local; `None` if `t` does not exist or is
 /// earlier.
-fn shown_of(t: LocalTime) -> Option<u32>
-    ensures value { result ≡ shown_of t }
+fn local_minutes(t: LocalTime) -> Option<u32>
+    ensures value { result ≡ local_minutes t }
     ensures range { IfSome result (λ shown. shown < 52597440) }
 {
     if t.hour > 23 || t.minute > 59 {
@@ -109,7 +109,7 @@ fn shown_of(t: LocalTime) -> Option<u32>
 pub fn minute_shown(a: Abbreviation, t: LocalTime) -> Option<Minute>
     ensures { result ≡ minute_shown a t }
 {
-    let shown = shown_of(t)? + 60 * u32::from(a.hours_behind());
+    let shown = local_minutes(t)? + 60 * u32::from(a.hours_behind());
     if shown < 1440 {
         return None;
     }

@@ -3,7 +3,7 @@ ghost use Rattle.std.specs.Prelude.{◌≡◌, ◌≤◌, ◌<◌, [], length, s
 ghost use Rattle.std.specs.Option.{is_some};
 ghost use Rattle.jiff_core.specs.Weekday.{monday_zero};
 ghost use Rattle.desk_clock.specs.Abbreviations.{letters_of};
-ghost use Rattle.desk_clock.specs.Names.{month_names, weekday_names, abbreviations, month_name, weekday_name, same_letters, place_of, abbreviation_named};
+ghost use Rattle.desk_clock.specs.Names.{month_names, weekday_names, abbreviations, month_name, weekday_name, same_letters, place_of, parse_abbreviation};
 
 use crate::abbreviations::Abbreviation;
 use jiff_core::civil::Weekday;
@@ -86,7 +86,7 @@ fn place_of(names: &[[u8; 3]], word: &[u8]) -> Option<usize>
 
 /// Returns the index of the month that a word names, 0 for `Jan`, whatever its letter case.
 #[tactic(auto, using(crate::proofs::Tables::twelve_names))]
-pub fn month_place(word: &[u8]) -> Option<usize>
+pub fn month_index(word: &[u8]) -> Option<usize>
     ensures value { result ≡ place_of month_names word.now }
     ensures range { IfSome result (λ i. i < 12) }
 {
@@ -101,8 +101,8 @@ pub fn is_weekday(word: &[u8]) -> bool
 }
 
 /// Returns the abbreviation with these letters, whatever their case.
-pub fn abbreviation_named(word: &[u8]) -> Option<Abbreviation>
-    ensures { result ≡ abbreviation_named word.now }
+pub fn parse_abbreviation(word: &[u8]) -> Option<Abbreviation>
+    ensures { result ≡ parse_abbreviation word.now }
 {
     abbreviations()
         .iter()

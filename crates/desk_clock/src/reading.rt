@@ -4,12 +4,12 @@ ghost use Rattle.hazard_types.specs.declared.codes.LocalZone.{LocalZone as Zone}
 ghost use Rattle.desk_clock.specs.LocalText.{local_line_of};
 ghost use Rattle.std.specs.List.{list_all};
 ghost use Rattle.std.specs.Char.{is_ascii_alphabetic};
-ghost use Rattle.desk_clock.specs.LocalWords.{digit, number_of, half_of, time_said, year_said, date_said, words_say, are_letters};
+ghost use Rattle.desk_clock.specs.LocalWords.{digit, number_of, half_of, parse_time_of_day, year_said, date_said, words_say, are_letters};
 ghost use Rattle.desk_clock.specs.LocalForm.{written_in, minute_of, read_of, ReadsAs, LacksAbbreviation};
 
 use crate::abbreviations::Abbreviation;
 use crate::local_times::{LocalTime, has_date, minute_shown};
-use crate::names::{abbreviation_named, is_weekday, month_place, same_letters};
+use crate::names::{is_weekday, month_index, parse_abbreviation, same_letters};
 use crate::words::{after_aside, after_word, first_word};
 use hazard_types::Minute;
 use thiserror::Error;
@@ -70,9 +70,9 @@ fn half_of(word: &[u8]) -> Option<u8>
 }
 
 /// Returns the hour (0 to 23) and the minute of `1030` or `930` and `AM` or `PM`.
-#[tactic(auto, unfolding(crate::specs::LocalWords::time_said))]
-fn time_said(clock: &[u8], half: &[u8]) -> Option<(u8, u8)>
-    ensures { result ≡ time_said clock.now half.now }
+#[tactic(auto, unfolding(crate::specs::LocalWords::parse_time_of_day))]
+fn parse_time_of_day(clock: &[u8], half: &[u8]) -> Option<(u8, u8)>
+    ensures { result ≡ parse_time_of_day clock.now half.now }
 {
     let at = clock.len().saturating_sub(2);
     let hour = number_of(&clock[..at])?;
@@ -110,11 +110,11 @@ fn date_said(
 ) -> Option<Written>
     ensures { result ≡ date_said letters.now month.now day.now year.now time }
 {
-    let place = month_place(month)?;
+    let place = month_index(month)?;
     let day = number_of(day)?;
     let year = year_said(year)?;
     Some(Written {
-        abbreviation: abbreviation_named(letters),
+        abbreviation: parse_abbreviation(letters),
         time: LocalTime {
             year,
             month: place as u8 + 1,
@@ -140,7 +140,7 @@ fn words_say(
         ≡ words_say clock.now half.now letters.now weekday.now month.now day.now year.now }
 {
     if are_letters(letters) && is_weekday(weekday) {
-        let time = time_said(clock, half)?;
+        let time = parse_time_of_day(clock, half)?;
         date_said(letters, month, day, year, time)
     } else {
         None

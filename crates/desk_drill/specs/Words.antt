@@ -10,5 +10,5 @@ drill_of (Some number) (Some count) = Some (record { number = number; count = co
 drill_of _ _ = None
 
 -- `drill NUMBER COUNT`: a number below 2^64, and a count of at most 8,192
-unfoldable pub drill_in : List ℕ → List ℕ → List ℕ → Option Drill
-drill_in command number count = if bytes_eq command (codes "drill") then drill_of (number_in 18446744073709551615 number) (number_in 8192 count) else None
+unfoldable pub parse_drill : List ℕ → List ℕ → List ℕ → Option Drill
+parse_drill command number count = if bytes_eq command (codes "drill") then drill_of (number_in 18446744073709551615 number) (number_in 8192 count) else None

@@ -1,5 +1,5 @@
 //! The drill: generated requests through an office in memory, whose texts are read as they are
-//! written. For the program `warn_main` and for tests. One begins with `drill_in` for the arguments
+//! written. For the program `warn_main` and for tests. One begins with `parse_drill` for the arguments
 //! and `run_drill`.
 //!
 //! docs/COMMANDS.md, "The commands".
@@ -17,4 +17,4 @@ mod words;
 
 pub use drill::{Drill, run_drill};
 pub use laws::texts_that_read_as_the_board_have_no_breach;
-pub use words::drill_in;
+pub use words::parse_drill;

@@ -1,6 +1,6 @@
 //! The arguments of a drill.
 ghost use Rattle.std.specs.Prelude.{◌≡◌, ◌≤◌, IfSome};
-ghost use Rattle.desk_drill.specs.Words.{drill_in};
+ghost use Rattle.desk_drill.specs.Words.{parse_drill};
 
 use crate::drill::Drill;
 use program_ends::number_in;
@@ -10,9 +10,9 @@ const MOST: u64 = 8192;
 
 /// Parses the arguments `drill NUMBER COUNT`, decimal digits with leading zeros allowed, a number
 /// below 2^64 and a count of at most 8,192. `None` exactly if they are something else.
-#[tactic(auto, unfolding(crate::specs::Words::drill_in))]
-pub fn drill_in(command: &[u8], number: &[u8], count: &[u8]) -> Option<Drill>
-    ensures value { result ≡ drill_in command.now number.now count.now }
+#[tactic(auto, unfolding(crate::specs::Words::parse_drill))]
+pub fn parse_drill(command: &[u8], number: &[u8], count: &[u8]) -> Option<Drill>
+    ensures value { result ≡ parse_drill command.now number.now count.now }
     ensures form { IfSome result (λ drill. drill.count ≤ 8192) }
 {
     if command != b"drill".as_slice() {

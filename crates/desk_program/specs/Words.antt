@@ -4,13 +4,13 @@ use Rattle.std.specs.Option.{option_or}
 use Rattle.std.specs.Str.{bytes_eq}
 use Rattle.hazard_types.specs.Calendar.{stamp_at}
 use Rattle.hazard_types.specs.Characters.{is_office}
-use Rattle.desk_drill.specs.Words.{drill_in}
+use Rattle.desk_drill.specs.Words.{parse_drill}
 use Rattle.desk_program.specs.declared.words.Command.{Command}
 use Rattle.desk_program.specs.declared.words.Command.TheVariants as command
 
 -- `init`, `script`, `export`, `upgrade` or `board`
-abbrev pub single_word : List ℕ → Option Command
-single_word word =
+abbrev pub parse_one_word : List ℕ → Option Command
+parse_one_word word =
     if bytes_eq word (codes "init") then Some command.Init
     else if bytes_eq word (codes "script") then Some command.Script
     else if bytes_eq word (codes "export") then Some command.Export
@@ -28,7 +28,7 @@ dry_words a b c = if bytes_eq a (codes "dry") && is_office b then option_map (λ
 
 -- `drill NUMBER COUNT`
 abbrev pub drill_words : List ℕ → List ℕ → List ℕ → Option Command
-drill_words a b c = option_map (λ drill. command.Drill drill) (drill_in a b c)
+drill_words a b c = option_map (λ drill. command.Drill drill) (parse_drill a b c)
 
 -- `board --at STAMP`, `dry OFFICE STAMP` or `drill NUMBER COUNT`
 abbrev pub three_words : List ℕ → List ℕ → List ℕ → Option Command
@@ -36,7 +36,7 @@ three_words a b c = option_or (board_words a b c) (option_or (dry_words a b c) (
 
 -- the command that the words are, all of them
 unfoldable pub command_of : List (List ℕ) → Option Command
-command_of (a ∷ []) = single_word a
+command_of (a ∷ []) = parse_one_word a
 command_of (a ∷ b ∷ c ∷ []) = three_words a b c
 command_of _ = None
 

@@ -1,9 +1,9 @@
 //! The arguments of the command line.
 ghost use Rattle.std.specs.Prelude.{◌≡◌, IfSome};
 ghost use Rattle.desk_program.specs.Words.{IsCommand, board_words, command_of, drill_words};
-ghost use Rattle.desk_program.specs.Words.{dry_words, single_word, three_words};
+ghost use Rattle.desk_program.specs.Words.{dry_words, parse_one_word, three_words};
 
-use desk_drill::{Drill, drill_in};
+use desk_drill::{Drill, parse_drill};
 use hazard_types::{List, Minute, Text, read_stamp};
 use program_ends::office_of;
 
@@ -34,8 +34,8 @@ pub enum Command {
 }
 
 /// The command of one word.
-fn single_word(word: &[u8]) -> Option<Command>
-    ensures { result ≡ single_word word.now }
+fn parse_one_word(word: &[u8]) -> Option<Command>
+    ensures { result ≡ parse_one_word word.now }
 {
     if word == b"init".as_slice() {
         Some(Command::Init)
@@ -81,7 +81,7 @@ fn drill_words(command: &[u8], number: &[u8], count: &[u8]) -> Option<Command>
     ensures value { result ≡ drill_words command.now number.now count.now }
     ensures forms { IfSome result IsCommand }
 {
-    let drill = drill_in(command, number, count)?;
+    let drill = parse_drill(command, number, count)?;
     Some(Command::Drill(drill))
 }
 
@@ -109,7 +109,7 @@ pub fn command_of(words: &List<Text>) -> Option<Command>
     ensures forms { IfSome result IsCommand }
 {
     match words.as_slice() {
-        [word] => single_word(word.as_slice()),
+        [word] => parse_one_word(word.as_slice()),
         [first, second, third] => three_words(
             first.as_slice(),
             second.as_slice(),

@@ -22,8 +22,8 @@ site_in text = if is_site text then Some text else None
 abbrev pub is_heading : List ℕ → Bool
 is_heading text = (length text == 6) && list_all is_capital (take 4 text) && list_all is_digit (drop 4 text)
 
-abbrev pub heading_in : List ℕ → Option (List ℕ)
-heading_in text = if is_heading text then Some text else None
+abbrev pub parse_ttaaii : List ℕ → Option (List ℕ)
+parse_ttaaii text = if is_heading text then Some text else None
 
 -- the zone of local times of this name
 abbrev pub local_zone_in : List ℕ → Option LocalZone

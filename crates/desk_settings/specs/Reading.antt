@@ -18,7 +18,7 @@ use Rattle.desk_settings.specs.declared.keys.Key.{Key}
 use Rattle.desk_settings.specs.declared.keys.Key.TheVariants as key
 use Rattle.desk_settings.specs.declared.settings.Settings.{Settings}
 use Rattle.hazard_types.specs.Names.{zone_at}
-use Rattle.desk_settings.specs.Forms.{office_in, site_in, is_office_line, local_zone_in, heading_in, is_zone_name}
+use Rattle.desk_settings.specs.Forms.{office_in, site_in, is_office_line, local_zone_in, parse_ttaaii, is_zone_name}
 use Rattle.desk_settings.specs.Keys.{key_name, value_at, text_at, missing_key}
 
 -- the value that was found, or the fault of its key
@@ -80,7 +80,7 @@ abbrev pub desks_field : Members → Result (List (List ℕ)) SettingsFault
 desks_field ms = known key.Desks (option_and_then desks_in (value_at key.Desks ms))
 
 abbrev pub heading_field : Members → Category → Result (List ℕ) SettingsFault
-heading_field ms category = known (key.Heading category) (option_and_then heading_in (text_at (key.Heading category) ms))
+heading_field ms category = known (key.Heading category) (option_and_then parse_ttaaii (text_at (key.Heading category) ms))
 
 abbrev pub zones_field : Members → Result (List (Place × List ℕ)) SettingsFault
 zones_field ms = known key.Zones (option_and_then zones_in (value_at key.Zones ms))

@@ -8,9 +8,9 @@ ghost use Rattle.desk_settings.specs.Reading.{zone_name_in, names_of, few_desks,
 ghost use Rattle.desk_settings.specs.declared.fault.SettingsFault.TheVariants.{BadValue};
 
 use crate::fault::SettingsFault;
-use crate::forms::{heading_in, is_office_line, is_zone_name, local_zone_in, office_in, site_in};
+use crate::forms::{is_office_line, is_zone_name, local_zone_in, office_in, parse_ttaaii, site_in};
 use crate::keys::{Key, text_at, value_at};
-use hazard_types::{Category, List, LocalZone, Oom, Or, Text, Zone, zone_in};
+use hazard_types::{Category, List, LocalZone, Oom, Or, Text, Zone, parse_zone};
 use office_types::Desk;
 use std::alloc::Global;
 use toml::{Table, Value};
@@ -95,7 +95,7 @@ fn heading_field(
     ensures { Gives result (heading_field (table_view table.now) category) }
 {
     let key = Key::Heading(category);
-    match text_at(table, key).and_then(|text| heading_in(text.as_bytes())) {
+    match text_at(table, key).and_then(|text| parse_ttaaii(text.as_bytes())) {
         Some(heading) => Ok(heading),
         None => bad_value(alloc, key),
     }
@@ -194,7 +194,7 @@ fn zones_of(alloc: Global, table: &Table) -> Result<Option<List<(Zone, Text)>>, 
 {
     let mut zones = List::new(alloc);
     for (key, value) in table.iter() {
-        let Some(zone) = zone_in(key.as_bytes()) else {
+        let Some(zone) = parse_zone(key.as_bytes()) else {
             return Ok(None);
         };
         let Some(text) = zone_name_in(value) else {

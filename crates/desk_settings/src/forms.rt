@@ -5,7 +5,7 @@ ghost use Rattle.std.specs.Prelude.{◌≡◌};
 ghost use Rattle.std.specs.List.{list_all};
 ghost use Rattle.hazard_types.specs.Calendar.{is_digit};
 ghost use Rattle.hazard_types.specs.Places.{is_capital};
-ghost use Rattle.desk_settings.specs.Forms.{begins_with_letter, is_site, is_line_byte, is_office_line, is_zone_name_byte, is_zone_name, is_heading, office_in, site_in, heading_in, local_zone_in};
+ghost use Rattle.desk_settings.specs.Forms.{begins_with_letter, is_site, is_line_byte, is_office_line, is_zone_name_byte, is_zone_name, is_heading, office_in, site_in, parse_ttaaii, local_zone_in};
 
 use hazard_types::{LocalZone, is_name_byte, is_printable};
 
@@ -64,8 +64,8 @@ fn is_heading(text: &[u8]) -> bool
 
 /// Returns the start of a heading line, if `text` is four capital letters and two digits, as
 /// `WWUS41`.
-pub fn heading_in(text: &[u8]) -> Option<[u8; 6]>
-    ensures { result ≡ heading_in text.now }
+pub fn parse_ttaaii(text: &[u8]) -> Option<[u8; 6]>
+    ensures { result ≡ parse_ttaaii text.now }
 {
     let [a, b, c, d, e, f] = text else {
         return None;

@@ -22,7 +22,7 @@ pub enum Key {
 }
 
 /// Returns the key of a category's heading, as `WSW`.
-fn category_name(category: Category) -> &'static str
+fn category_key(category: Category) -> &'static str
     ensures { result.now ≡ category_code category }
 {
     match category {
@@ -79,7 +79,7 @@ impl Key {
             Key::Desks => Text::from_slice(alloc, b"desks"),
             Key::Heading(category) => {
                 let mut name = Text::from_slice(alloc, b"headings.")?;
-                name.extend(category_name(category).as_bytes())?;
+                name.extend(category_key(category).as_bytes())?;
                 Ok(name)
             }
             Key::Zones => Text::from_slice(alloc, b"zones"),
@@ -101,7 +101,7 @@ fn heading_at(table: &Table, category: Category) -> Option<&Value>
 {
     match look_up(table, "headings") {
         Some(value) => match value.as_table() {
-            Some(headings) => look_up(headings, category_name(category)),
+            Some(headings) => look_up(headings, category_key(category)),
             None => None,
         },
         None => None,

@@ -18,7 +18,7 @@ use Rattle.event_life.specs.declared.life.Breach.TheVariants.{TooEarly, PeriodMo
 use Rattle.event_life.specs.Periods.{ends_after, same_end, same_at}
 use Rattle.event_life.specs.Lives.{opens, goes_on, ends}
 use Rattle.hazard_types.specs.declared.line.Flood.{Flood}
-use Rattle.event_life.specs.Table.{flood_after, first_of, on_life, on_nothing, on_new, on_joining, on_continuing, on_ending, prints_begin, moves_begin, prints_past, prints_later, expires_early, expires_late, cancels_late, stays, continued_period, breach_of_line, life_after, left_of_life, unless_breach, step}
+use Rattle.event_life.specs.Table.{flood_after, first_of, on_life, on_nothing, on_new, on_joining, on_continuing, on_ending, prints_begin_as_due, moves_begin, prints_past, prints_later, expires_early, expires_late, cancels_late, stays, continued_period, breach_of_line, life_after_lawful_line, life_after_line, unless_breach, step}
 use Rattle.event_life.specs.Bounds.{IsBefore, IsLongBefore, IsNear, AreSame, HasEnded, OpensEvent, JoinsEvent, GoesOnFrom, Stays, EndsAsPrinted, begin_left, IsOpened, IsCarriedOn, IsEnded}
 use Rattle.event_life.specs.Products.{is_routine}
 use Rattle.event_life.proofs.LivesLemmas.{on_life-ended}
@@ -220,11 +220,11 @@ ext_exactly (Some life) line t around a =
 
 -- CAN, EXP and UPG
 
-prints_from : (begin : Option ℕ) (own t : ℕ) → prints_begin begin own t ≡ true → moves_begin begin own ≡ false → (own ≤ t → begin ≡ None) × (t < own → begin ≡ Some own)
+prints_from : (begin : Option ℕ) (own t : ℕ) → prints_begin_as_due begin own t ≡ true → moves_begin begin own ≡ false → (own ≤ t → begin ≡ None) × (t < own → begin ≡ Some own)
 prints_from None own t p q = (λ _. refl, λ h. absurd (omega (arith, leb-true own t p)))
 prints_from (Some b) own t p q = (λ h. absurd (omega (arith, ltb-true t own p)), λ h. ap Some (eqb-true b own (not-false _ q)))
 
-from_prints : (begin : Option ℕ) (own t : ℕ) → (own ≤ t → begin ≡ None) → (t < own → begin ≡ Some own) → (prints_begin begin own t ≡ true) × (moves_begin begin own ≡ false)
+from_prints : (begin : Option ℕ) (own t : ℕ) → (own ≤ t → begin ≡ None) → (t < own → begin ≡ Some own) → (prints_begin_as_due begin own t ≡ true) × (moves_begin begin own ≡ false)
 from_prints None own t p q = (true_from_ne_false _ (λ h. let f = q (leb-false own t h) in cc), refl)
 from_prints (Some b) own t p q =
     let later : nat_lt t own ≡ true = true_from_ne_false _ (λ h. let f = p (ltb-false t own h) in cc) in
@@ -281,14 +281,14 @@ ok_holds : {X : Type 0} (P : X → Type 0) (o : Option Breach) (x : X) → P x �
 ok_holds P None x h = h
 ok_holds P (Some breach) x h = tt
 
-opened_life : (a : Action) (life : Life) (line : Line) (t : ℕ) → opens a ≡ true → IsOpened line t (left_of_life a life line t)
+opened_life : (a : Action) (life : Life) (line : Line) (t : ℕ) → opens a ≡ true → IsOpened line t (life_after_line a life line t)
 opened_life New life line t h = record { begin = refl; end = refl; flood = refl; going = refl }
 opened_life Exa life line t h = record { begin = refl; end = refl; flood = refl; going = refl }
 opened_life Exb life line t h = record { begin = refl; end = refl; flood = refl; going = refl }
 opened_life _ life line t h = cc
 
 pub opens_leaves : (before : Option Life) (line : Line) (t : ℕ) (around : Around) → opens line.action ≡ true → IfOk (step before line t around) (IsOpened line t)
-unfolding life_after
+unfolding life_after_lawful_line
 opens_leaves None line t around h = ok_holds (IsOpened line t) (breach_of_line None line t around) _ (record { begin = refl; end = refl; flood = refl; going = refl })
 opens_leaves (Some life) line t around h = ok_holds (IsOpened line t) (breach_of_line (Some life) line t around) _ (opened_life line.action life line t h)
 
@@ -298,24 +298,24 @@ takes life line (Some old) None = refl
 takes life line None (Some flood) = refl
 takes life line (Some old) (Some flood) = refl
 
-carried_on : (a : Action) (life : Life) (line : Line) (t : ℕ) → goes_on a ≡ true → IsCarriedOn life line t (left_of_life a life line t)
+carried_on : (a : Action) (life : Life) (line : Line) (t : ℕ) → goes_on a ≡ true → IsCarriedOn life line t (life_after_line a life line t)
 carried_on Con life line t h = record { begin = refl; end = refl; flood = takes life line life.flood line.flood; going = refl }
 carried_on Cor life line t h = record { begin = refl; end = refl; flood = takes life line life.flood line.flood; going = refl }
 carried_on Ext life line t h = record { begin = refl; end = refl; flood = takes life line life.flood line.flood; going = refl }
 carried_on _ life line t h = cc
 
 pub goes_on_leaves : (life : Life) (line : Line) (t : ℕ) (around : Around) → goes_on line.action ≡ true → IfOk (step (Some life) line t around) (IsCarriedOn life line t)
-unfolding life_after
+unfolding life_after_lawful_line
 goes_on_leaves life line t around h = ok_holds (IsCarriedOn life line t) (breach_of_line (Some life) line t around) _ (carried_on line.action life line t h)
 
-ended_life : (a : Action) (life : Life) (line : Line) (t : ℕ) → ends a ≡ true → IsEnded life line (left_of_life a life line t)
+ended_life : (a : Action) (life : Life) (line : Line) (t : ℕ) → ends a ≡ true → IsEnded life line (life_after_line a life line t)
 ended_life Can life line t h = record { period = refl; flood = takes life line life.flood line.flood; ended = refl }
 ended_life Exp life line t h = record { period = refl; flood = takes life line life.flood line.flood; ended = refl }
 ended_life Upg life line t h = record { period = refl; flood = takes life line life.flood line.flood; ended = refl }
 ended_life _ life line t h = cc
 
 pub ends_leaves : (life : Life) (line : Line) (t : ℕ) (around : Around) → ends line.action ≡ true → IfOk (step (Some life) line t around) (IsEnded life line)
-unfolding life_after
+unfolding life_after_lawful_line
 ends_leaves life line t around h = ok_holds (IsEnded life line) (breach_of_line (Some life) line t around) _ (ended_life line.action life line t h)
 
 -- a life that a line has ended: only lines that open are lawful, and they are judged, and leave the life, as where there is none
@@ -330,17 +330,17 @@ anew_tests Exa life line t around o e = rw e refl
 anew_tests Exb life line t around o e = rw e refl
 anew_tests _ life line t around o e = cc
 
-anew_life : (a : Action) (life : Life) (line : Line) (t : ℕ) → opens a ≡ true → left_of_life a life line t ≡ life_after None line t
-unfolding life_after
+anew_life : (a : Action) (life : Life) (line : Line) (t : ℕ) → opens a ≡ true → life_after_line a life line t ≡ life_after_lawful_line None line t
+unfolding life_after_lawful_line
 anew_life New life line t o = refl
 anew_life Exa life line t o = refl
 anew_life Exb life line t o = refl
 anew_life _ life line t o = cc
 
 pub ended_anew : (life : Life) (line : Line) (t : ℕ) (around : Around) → opens line.action ≡ true → life.ended ≡ true → step (Some life) line t around ≡ step None line t around
-unfolding breach_of_line life_after
+unfolding breach_of_line life_after_lawful_line
 ended_anew life line t around o e =
-    ap (λ (breach : Option Breach). unless_breach breach (left_of_life line.action life line t)) (anew_tests line.action life line t around o e)
+    ap (λ (breach : Option Breach). unless_breach breach (life_after_line line.action life line t)) (anew_tests line.action life line t around o e)
     ∙ ap (λ (after : Life). unless_breach (first_of (on_nothing line.action line t around)) after) (anew_life line.action life line t o)
 
 -- no step is Twice

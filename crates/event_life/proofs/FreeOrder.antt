@@ -14,13 +14,13 @@ use Rattle.hazard_types.proofs.Equality.{zone_itself, event_itself}
 use Rattle.event_life.specs.declared.life.Breach.{Breach}
 use Rattle.event_life.specs.Firsts.{is_lawful, first_line, row_by_first}
 use Rattle.event_life.specs.Higher.{may_yield}
-use Rattle.event_life.specs.Products.{by_key, row_at, life_at, row_after, around_of, is_routine, is_upgrade, speaks_of, is_second, is_overlapped, has_higher, breach_in, judged_from, judged, lawful_of, put_all, end_upgraded, rows_for_higher, rows_after}
+use Rattle.event_life.specs.Products.{by_key, row_at, life_at, row_after, around_of, is_routine, is_upgrade, concerns, is_second, is_overlapped, has_higher, breach_in, judged_from, judged, lawful_of, put_all, end_upgraded, rows_for_higher, rows_after}
 use Rattle.event_life.specs.Reordered.{are_lawful, TouchAlike, AreApart}
 use Rattle.event_life.specs.Table.{breach_of_line}
 use Rattle.event_life.proofs.HigherLemmas.{breach-higher, rows_for_higher-lawful}
 use Rattle.event_life.proofs.Keys.{by_key-total, key_exact}
 use Rattle.event_life.proofs.Members.{IsIn, of_all, all_of, in_contains, contains_in, any_in, in_any, all_in, in_all, find_in, none_in, one_way}
-use Rattle.event_life.proofs.Puts.{at_key, at_key-parts, none_above, all_above, put_all-sorted, rows_after-sorted, speaks_of-parts}
+use Rattle.event_life.proofs.Puts.{at_key, at_key-parts, none_above, all_above, put_all-sorted, rows_after-sorted, concerns-parts}
 use Rattle.event_life.proofs.Spoken.{spoken, lawful_first, AreTouching, lawful_of-touches, row_by_last, row_at-put_all, row_at-rows_after}
 
 -- rows in order are told by what is found in them
@@ -69,8 +69,8 @@ told_by_keys (q ∷ qs) (r ∷ bs) up up_too h =
 
 -- tests that only lines which touch a life pass
 
-speaks-touches : (e : Event) (z : Place) (line : Line) → speaks_of e z line ≡ true → is_routine line.action ≡ false
-speaks-touches e z line h = (speaks_of-parts e z line h).0
+speaks-touches : (e : Event) (z : Place) (line : Line) → concerns e z line ≡ true → is_routine line.action ≡ false
+speaks-touches e z line h = (concerns-parts e z line h).0
 
 any_alike : (p : Line → Bool) (xs ys : List Line) → ((line : Line) → p line ≡ true → is_routine line.action ≡ false) → TouchAlike xs ys → list_any p xs ≡ list_any p ys
 any_alike p xs ys own alike =
@@ -80,34 +80,34 @@ any_alike p xs ys own alike =
 
 -- two lines of one event and zone among lines apart are one
 
-again : (x y : Line) (lines : List Line) (e : Event) (z : Place) → (is_routine x.action ≡ false → list_any (speaks_of x.event x.zone) lines ≡ false) → speaks_of e z x ≡ true → speaks_of e z y ≡ true → IsIn y lines → ⊥
+again : (x y : Line) (lines : List Line) (e : Event) (z : Place) → (is_routine x.action ≡ false → list_any (concerns x.event x.zone) lines ≡ false) → concerns e z x ≡ true → concerns e z y ≡ true → IsIn y lines → ⊥
 again x y lines e z apart p q h =
-    let parts = speaks_of-parts e z x p in
-    let none : list_any (speaks_of e z) lines ≡ false = rw (sym parts.1, sym parts.2) (apart parts.0) in
-    both_ways _ none (in_any (speaks_of e z) lines y h q)
+    let parts = concerns-parts e z x p in
+    let none : list_any (concerns e z) lines ≡ false = rw (sym parts.1, sym parts.2) (apart parts.0) in
+    both_ways _ none (in_any (concerns e z) lines y h q)
 
-is_one : (lines : List Line) (x y : Line) (e : Event) (z : Place) → AreApart lines → IsIn x lines → IsIn y lines → speaks_of e z x ≡ true → speaks_of e z y ≡ true → x ≡ y
+is_one : (lines : List Line) (x y : Line) (e : Event) (z : Place) → AreApart lines → IsIn x lines → IsIn y lines → concerns e z x ≡ true → concerns e z y ≡ true → x ≡ y
 is_one [] x y e z apart h g p q = absurd h
 is_one (l ∷ lines) x y e z apart (inl s) (inl r) p q = sym s ∙ r
-is_one (l ∷ lines) x y e z apart (inl s) (inr g) p q = absurd (again l y lines e z apart.0 (subst (λ (v : Line). speaks_of e z v ≡ true) (sym s) p) q g)
-is_one (l ∷ lines) x y e z apart (inr h) (inl r) p q = absurd (again l x lines e z apart.0 (subst (λ (v : Line). speaks_of e z v ≡ true) (sym r) q) p h)
+is_one (l ∷ lines) x y e z apart (inl s) (inr g) p q = absurd (again l y lines e z apart.0 (subst (λ (v : Line). concerns e z v ≡ true) (sym s) p) q g)
+is_one (l ∷ lines) x y e z apart (inr h) (inl r) p q = absurd (again l x lines e z apart.0 (subst (λ (v : Line). concerns e z v ≡ true) (sym r) q) p h)
 is_one (l ∷ lines) x y e z apart (inr h) (inr g) p q = is_one lines x y e z apart.1 h g p q
 
 -- so the first line of an event in a zone is the same
 module _ (xs ys : List Line) (apart : AreApart xs) (alike : TouchAlike xs ys) (e : Event) (z : Place) where
-  found_alike : (o r : Option Line) → find (speaks_of e z) xs ≡ o → find (speaks_of e z) ys ≡ r → o ≡ r
+  found_alike : (o r : Option Line) → find (concerns e z) xs ≡ o → find (concerns e z) ys ≡ r → o ≡ r
   found_alike None None h g = refl
   found_alike None (Some y) h g =
-      let own = find_in (speaks_of e z) ys y g in
-      let any : list_any (speaks_of e z) ys ≡ true = in_any (speaks_of e z) ys y own.0 own.1 in
-      absurd (both_ways _ (sym (any_alike (speaks_of e z) xs ys (speaks-touches e z) alike) ∙ none_in (speaks_of e z) xs h) any)
+      let own = find_in (concerns e z) ys y g in
+      let any : list_any (concerns e z) ys ≡ true = in_any (concerns e z) ys y own.0 own.1 in
+      absurd (both_ways _ (sym (any_alike (concerns e z) xs ys (speaks-touches e z) alike) ∙ none_in (concerns e z) xs h) any)
   found_alike (Some x) None h g =
-      let own = find_in (speaks_of e z) xs x h in
-      let any : list_any (speaks_of e z) xs ≡ true = in_any (speaks_of e z) xs x own.0 own.1 in
-      absurd (both_ways _ (any_alike (speaks_of e z) xs ys (speaks-touches e z) alike ∙ none_in (speaks_of e z) ys g) any)
+      let own = find_in (concerns e z) xs x h in
+      let any : list_any (concerns e z) xs ≡ true = in_any (concerns e z) xs x own.0 own.1 in
+      absurd (both_ways _ (any_alike (concerns e z) xs ys (speaks-touches e z) alike ∙ none_in (concerns e z) ys g) any)
   found_alike (Some x) (Some y) h g =
-      let first = find_in (speaks_of e z) xs x h in
-      let second = find_in (speaks_of e z) ys y g in
+      let first = find_in (concerns e z) xs x h in
+      let second = find_in (concerns e z) ys y g in
       let there : IsIn y xs = contains_in xs y ((alike y (speaks-touches e z y second.1)).1 (in_contains ys y second.0)) in
       ap (λ (v : Line). Some v) (is_one xs x y e z apart first.0 there first.1 second.1)
 
@@ -162,14 +162,14 @@ module _ (rows : List Row) (t : ℕ) where
   found_left : (lines : List Line) (e : Event) (z : Place) → row_at (left_by lines) e z ≡ row_by_last rows t (filter others (lawful_first rows t lines (first_line lines e z))) (row_at rows e z)
   found_left lines e z =
       row_at-put_all rows t e z (filter others (lawful_of (judged rows t lines))) rows (touching_kept others others (lawful_of (judged rows t lines)) (lawful_of-touches (judged rows t lines)))
-      ∙ ap (λ (ls : List Line). row_by_last rows t ls (row_at rows e z)) (commute (speaks_of e z) others (lawful_of (judged rows t lines)) ∙ ap (filter others) (spoken rows t lines e z [] lines))
+      ∙ ap (λ (ls : List Line). row_by_last rows t ls (row_at rows e z)) (commute (concerns e z) others (lawful_of (judged rows t lines)) ∙ ap (filter others) (spoken rows t lines e z [] lines))
 
   end_alike : (xs ys : List Line) → TouchAlike xs ys → (after : List Row) → end_upgraded xs after ≡ end_upgraded ys after
   end_alike xs ys alike [] = refl
   end_alike xs ys alike (r ∷ after) =
-      let same = any_alike (λ (line : Line). is_upgrade line.action && speaks_of r.event r.zone line) xs ys (λ line h. speaks-touches r.event r.zone line (and_parts (is_upgrade line.action) _ h).1) alike in
+      let same = any_alike (λ (line : Line). is_upgrade line.action && concerns r.event r.zone line) xs ys (λ line h. speaks-touches r.event r.zone line (and_parts (is_upgrade line.action) _ h).1) alike in
       ap (λ (b : Bool). cond b (record { event = r.event; zone = r.zone; period = r.period; flood = r.flood; ended = true }) r ∷ end_upgraded xs after) same
-      ∙ ap (λ (rest : List Row). cond (list_any (λ (line : Line). is_upgrade line.action && speaks_of r.event r.zone line) ys) (record { event = r.event; zone = r.zone; period = r.period; flood = r.flood; ended = true }) r ∷ rest) (end_alike xs ys alike after)
+      ∙ ap (λ (rest : List Row). cond (list_any (λ (line : Line). is_upgrade line.action && concerns r.event r.zone line) ys) (record { event = r.event; zone = r.zone; period = r.period; flood = r.flood; ended = true }) r ∷ rest) (end_alike xs ys alike after)
 
   module _ (up : IsStrictlySortedBy by_key rows) (xs ys : List Line) (apart : AreApart xs) (alike : TouchAlike xs ys) where
     left_alike : left_by xs ≡ left_by ys
@@ -202,9 +202,9 @@ module _ (rows : List Row) (t : ℕ) where
 
 -- none has a breach
 
-turned : (x y : Line) → is_routine x.action ≡ false → is_routine y.action ≡ false → speaks_of y.event y.zone x ≡ true → speaks_of x.event x.zone y ≡ true
+turned : (x y : Line) → is_routine x.action ≡ false → is_routine y.action ≡ false → concerns y.event y.zone x ≡ true → concerns x.event x.zone y ≡ true
 turned x y own other h =
-    let parts = speaks_of-parts y.event y.zone x h in
+    let parts = concerns-parts y.event y.zone x h in
     rw (other, parts.1, parts.2, event_itself y.event) (zone_itself y.zone)
 
 or_none : (b : Bool) → (b || false) ≡ b
@@ -224,12 +224,12 @@ module _ (rows : List Row) (t : ℕ) (all : List Line) where
   breach_alone earlier line true own first = rw own refl
   breach_alone earlier line false own first = rw (own, first refl) refl
 
-  still_first : (earlier : List Line) (x y : Line) → is_routine y.action ≡ false → is_second earlier y ≡ false → (is_routine x.action ≡ false → speaks_of x.event x.zone y ≡ false) → is_second (earlier ++ x ∷ []) y ≡ false
+  still_first : (earlier : List Line) (x y : Line) → is_routine y.action ≡ false → is_second earlier y ≡ false → (is_routine x.action ≡ false → concerns x.event x.zone y ≡ false) → is_second (earlier ++ x ∷ []) y ≡ false
   still_first earlier x y own first apart =
-      let none : speaks_of y.event y.zone x ≡ false = false_from_ne_true _ (λ h.
+      let none : concerns y.event y.zone x ≡ false = false_from_ne_true _ (λ h.
       let touches = speaks-touches y.event y.zone x h in
       both_ways _ (apart touches) (turned x y touches own h)) in
-      list_any-append (speaks_of y.event y.zone) earlier (x ∷ []) ∙ rw (first, none) refl
+      list_any-append (concerns y.event y.zone) earlier (x ∷ []) ∙ rw (first, none) refl
 
   none_of : (p : Line → Bool) (lines : List Line) (y : Line) → list_any p lines ≡ false → IsIn y lines → p y ≡ false
   none_of p lines y h g = false_from_ne_true _ (λ e. both_ways _ h (in_any p lines y g e))
@@ -239,7 +239,7 @@ module _ (rows : List Row) (t : ℕ) (all : List Line) where
   judged_alone earlier (line ∷ lines) first apart =
       let rest : AreFirst (earlier ++ line ∷ []) lines = all_of (λ (l : Line). is_routine l.action ≡ false → is_second (earlier ++ line ∷ []) l ≡ false) lines (λ y h own.
       still_first earlier line y own (of_all (λ (l : Line). is_routine l.action ≡ false → is_second earlier l ≡ false) lines y first.1 h own)
-      (λ touches. none_of (speaks_of line.event line.zone) lines y (apart.0 touches) h)) in
+      (λ touches. none_of (concerns line.event line.zone) lines y (apart.0 touches) h)) in
       rw (breach_alone earlier line (is_routine line.action) refl first.0) (ap (λ (b : Bool). may_stand line && b) (judged_alone (earlier ++ line ∷ []) lines rest apart.1))
 
   first_all : (lines : List Line) → AreFirst [] lines

@@ -9,7 +9,7 @@ use Rattle.hazard_types.specs.declared.line.Row.{Row}
 use Rattle.event_life.specs.declared.life.Life.{Life}
 use Rattle.event_life.specs.declared.life.Breach.{Breach}
 use Rattle.event_life.specs.Table.{breach_of_line, first_of, on_life, on_nothing}
-use Rattle.event_life.specs.Products.{put, life_at, row_after, around_but_higher, has_higher, is_routine, is_upgrade, is_second, breach_in, judged_from, judged, lawful_of, put_all, put_but_upgrades, end_upgraded, rows_for_higher}
+use Rattle.event_life.specs.Products.{put, life_at, row_after, around_but_higher, has_higher, is_routine, is_upgrade, is_second, breach_in, judged_from, judged, lawful_of, put_all, rows_after_all_but_upgrades, end_upgraded, rows_for_higher}
 use Rattle.event_life.proofs.Spoken.{breach_in-first, breach_in-second, filter-cond}
 
 -- only UPG looks at the higher row
@@ -67,12 +67,12 @@ abbrev others : Line → Bool
 others line = not (is_upgrade line.action)
 
 but_upgrades : (rows : List Row) (t : ℕ) (all earlier lines : List Line) (after : List Row) →
-    put_but_upgrades rows t earlier lines after ≡ put_all rows t (filter others (lawful_of (judged_from rows t all earlier lines))) after
+    rows_after_all_but_upgrades rows t earlier lines after ≡ put_all rows t (filter others (lawful_of (judged_from rows t all earlier lines))) after
 but_upgrades rows t all earlier [] after = refl
 but_upgrades rows t all earlier (line ∷ lines) after =
     let kept = not (is_routine line.action) && is_none (breach_in rows t all earlier line) in
     let next = lawful_of (judged_from rows t all (earlier ++ line ∷ []) lines) in
-    ap (λ (b : Bool). put_but_upgrades rows t (earlier ++ line ∷ []) lines (cond b (put (row_after rows t line) after) after))
+    ap (λ (b : Bool). rows_after_all_but_upgrades rows t (earlier ++ line ∷ []) lines (cond b (put (row_after rows t line) after) after))
     (keeps-lawful rows t all earlier line (is_routine line.action) (is_upgrade line.action) (is_second earlier line) refl refl refl)
     ∙ but_upgrades rows t all (earlier ++ line ∷ []) lines (cond (others line && kept) (put (row_after rows t line) after) after)
     ∙ sym (put_all-cond rows t line (filter others next) after (is_upgrade line.action) kept)

@@ -12,11 +12,11 @@ use Rattle.hazard_types.specs.declared.line.Line.{Line}
 use Rattle.hazard_types.specs.declared.line.Row.{Row}
 use Rattle.event_life.specs.declared.life.Life.{Life}
 use Rattle.event_life.specs.declared.life.Around.{Around}
-use Rattle.event_life.specs.Table.{breach_of_line, life_after, first_of, on_new, on_life, on_nothing, left_of_life}
-use Rattle.event_life.specs.Products.{Product, has_rows, row_at, life_of, life_at, row_after, is_routine, speaks_of, around_of, judged, lawful_of, lines_of, rows_with}
+use Rattle.event_life.specs.Table.{breach_of_line, life_after_lawful_line, first_of, on_new, on_life, on_nothing, life_after_line}
+use Rattle.event_life.specs.Products.{Product, has_rows, row_at, life_of, life_at, row_after, is_routine, concerns, around_of, judged, lawful_of, lines_of, rows_with}
 use Rattle.event_life.specs.Firsts.{is_lawful, first_line, row_by_first, row_by_first_line}
 use Rattle.event_life.specs.Lives.{steps_of, track_from, track_of, opens, goes_on, ends, rejoins, Spell, at_end, actions_in, IsOfSpells, IsLife, actions_of}
-use Rattle.event_life.proofs.Puts.{speaks_of-parts}
+use Rattle.event_life.proofs.Puts.{concerns-parts}
 use Rattle.event_life.proofs.Spoken.{lawful_first, spoken, row_at-rows_after, steps_of-lines, step_of}
 
 -- what may follow once a spell has begun: with any action that opens it in front, spells
@@ -86,7 +86,7 @@ on_life-rejoins Exa life line t around more o has h on = on rejoins Exa refl
 on_life-rejoins Exb life line t around more o has h on = on rejoins Exb refl
 on_life-rejoins _ life line t around more o has h on = cc
 
-on_life-goes_on : (a : Action) (life : Life) (line : Line) (t : ℕ) (around : Around) (more : List Action) → is_routine a ≡ false → life.ended ≡ false → first_of (on_life a life line t around) ≡ None → May (Some (left_of_life a life line t)) more → MayGoOn (a ∷ more)
+on_life-goes_on : (a : Action) (life : Life) (line : Line) (t : ℕ) (around : Around) (more : List Action) → is_routine a ≡ false → life.ended ≡ false → first_of (on_life a life line t around) ≡ None → May (Some (life_after_line a life line t)) more → MayGoOn (a ∷ more)
 on_life-goes_on Con life line t around more r e h on = carried_on Con more refl on
 on_life-goes_on Cor life line t around more r e h on = carried_on Cor more refl on
 on_life-goes_on Ext life line t around more r e h on = carried_on Ext more refl on
@@ -98,14 +98,14 @@ on_life-goes_on Exa life line t around more r e h on = let g = rw e at h in cc
 on_life-goes_on Exb life line t around more r e h on = let g = rw e at h in cc
 on_life-goes_on Rou life line t around more r e h on = cc
 
-opened_goes_on : (a : Action) (life : Life) (line : Line) (t : ℕ) (more : List Action) → opens a ≡ true → May (Some (left_of_life a life line t)) more → MayGoOn more
+opened_goes_on : (a : Action) (life : Life) (line : Line) (t : ℕ) (more : List Action) → opens a ≡ true → May (Some (life_after_line a life line t)) more → MayGoOn more
 opened_goes_on New life line t more o on = on
 opened_goes_on Exa life line t more o on = on
 opened_goes_on Exb life line t more o on = on
 opened_goes_on _ life line t more o on = cc
 
 may_some : (life : Life) (line : Line) (t : ℕ) (around : Around) (more : List Action) (ended : Bool) → life.ended ≡ ended → is_routine line.action ≡ false → around.opened ≡ true → first_of (on_life line.action life line t around) ≡ None →
-    May (Some (left_of_life line.action life line t)) more → cond ended (IsOfSpells rejoins (line.action ∷ more)) (MayGoOn (line.action ∷ more))
+    May (Some (life_after_line line.action life line t)) more → cond ended (IsOfSpells rejoins (line.action ∷ more)) (MayGoOn (line.action ∷ more))
 may_some life line t around more true e r has h on =
     let o = on_life-ended line.action life line t around r e h in
     on_life-rejoins line.action life line t around more o has h (opened_goes_on line.action life line t more o on)
@@ -113,8 +113,8 @@ may_some life line t around more false e r has h on = on_life-goes_on line.actio
 
 -- a lawful line, and what may come after it
 may_step : (before : Option Life) (line : Line) (t : ℕ) (around : Around) (more : List Action) → is_routine line.action ≡ false → IfSome before (λ life. around.opened ≡ true) → breach_of_line before line t around ≡ None →
-    May (Some (life_after before line t)) more → May before (line.action ∷ more)
-unfolding breach_of_line life_after
+    May (Some (life_after_lawful_line before line t)) more → May before (line.action ∷ more)
+unfolding breach_of_line life_after_lawful_line
 may_step None line t around more r has h on = on_nothing-opens line.action line t around more r h on
 may_step (Some life) line t around more r has h on = may_some life line t around more life.ended refl r has h on
 
@@ -143,12 +143,12 @@ find-passes {X} p (y ∷ ys) x h =
     ] in
     step (p y) refl h
 
-by_product : (rows : List Row) (t : ℕ) (lines : List Line) (e : Event) (z : Place) (first : Option Line) (more : List (Action × ℕ)) → find (speaks_of e z) lines ≡ first →
+by_product : (rows : List Row) (t : ℕ) (lines : List Line) (e : Event) (z : Place) (first : Option Line) (more : List (Action × ℕ)) → find (concerns e z) lines ≡ first →
     May (option_map life_of (row_by_first rows t lines (row_at rows e z) first)) (actions_of more) →
     May (option_map life_of (row_at rows e z)) (actions_of (map (step_of t) (lawful_first rows t lines first) ++ more))
 by_product rows t lines e z None more h on = on
 by_product rows t lines e z (Some line) more h on =
-    let parts = speaks_of-parts e z line (find-passes (speaks_of e z) lines line h) in
+    let parts = concerns-parts e z line (find-passes (concerns e z) lines line h) in
     let own : life_at rows line ≡ option_map life_of (row_at rows e z) = rw (parts.1, parts.2) in
     let step : (b : Bool) → is_lawful rows t lines line ≡ b →
     May (option_map life_of (cond b (Some (row_after rows t line)) (row_at rows e z))) (actions_of more) →

@@ -18,7 +18,7 @@ use Rattle.hazard_types.proofs.OrderLaws.{by_event_total}
 use Rattle.event_life.specs.Products.{Product, by_key, placed, put, has_rows, life_at, row_after, around_of, is_routine, is_new, is_second, breach_in, judged_from, judged, lawful_of, put_all, lines_of, rows_after, rows_with}
 use Rattle.event_life.specs.Lives.{judged_product}
 use Rattle.event_life.specs.Openings.{event_placed, add_event, opened_by, opened_from, opened_of}
-use Rattle.event_life.specs.Table.{breach_of_line, life_after}
+use Rattle.event_life.specs.Table.{breach_of_line, life_after_lawful_line}
 use Rattle.event_life.proofs.BoundsLemmas.{none_ok, new_exactly}
 use Rattle.event_life.proofs.Keys.{key_exact}
 use Rattle.event_life.proofs.LivesLemmas.{none_from_test}
@@ -91,7 +91,7 @@ of_none rows t all earlier line own h new =
       | true ↦ λ q. let f = sym h ∙ breach_in-second rows t all earlier line own q in cc
       | false ↦ λ q.
           let none : breach_of_line (life_at rows line) line t (around_of rows t all line) ≡ None = sym (breach_in-first rows t all earlier line own q) ∙ h in
-          let ok = none_ok (breach_of_line (life_at rows line) line t (around_of rows t all line)) (life_after (life_at rows line) line t) none in
+          let ok = none_ok (breach_of_line (life_at rows line) line t (around_of rows t all line)) (life_after_lawful_line (life_at rows line) line t) none in
           ((new_exactly (life_at rows line) line t (around_of rows t all line) (is_new-New line.action new)).0 ok).1.no_rows
     ] in
     step (is_second earlier line) refl

@@ -18,7 +18,7 @@ use Rattle.hazard_types.proofs.Equality.{event_one, event_itself, hazard_one, ha
 use Rattle.event_life.specs.declared.life.Life.{Life}
 use Rattle.event_life.specs.declared.life.Around.{Around}
 use Rattle.event_life.specs.Periods.{keeps_open, is_not_long_past}
-use Rattle.event_life.specs.Table.{breach_of_line, life_after, step}
+use Rattle.event_life.specs.Table.{breach_of_line, life_after_lawful_line, step}
 use Rattle.event_life.specs.Bounds.{IsBefore, IsLongBefore, IsNear, GoesOnFrom, Stays, EndsAsPrinted}
 use Rattle.event_life.specs.Products.{row_at, life_of, life_at, is_open, around_of, is_routine, is_new, later_event, going_in, end_of, line_of}
 use Rattle.event_life.specs.Firsts.{is_lawful}
@@ -176,7 +176,7 @@ event_back : (rows : List Row) (t : ℕ) (lines : List Line) (line : Line) (new 
     cond new (record { hazard = line.event.hazard; etn = line.event.etn; year = year_of t }) (unwrap_or (going_in rows line.event.hazard line.event.etn t) (record { hazard = line.event.hazard; etn = line.event.etn; year = year_of t })) ≡ line.event
 event_back rows t lines line true n routine lawful one year = let y = sym (year n) in λ i. record { hazard = line.event.hazard; etn = line.event.etn; year = y i }
 event_back rows t lines line false n routine lawful one year =
-    let ok : IsOk (step (life_at rows line) line t (around_of rows t lines line)) = none_ok (breach_of_line (life_at rows line) line t (around_of rows t lines line)) (life_after (life_at rows line) line t) (none_from_test _ lawful) in
+    let ok : IsOk (step (life_at rows line) line t (around_of rows t lines line)) = none_ok (breach_of_line (life_at rows line) line t (around_of rows t lines line)) (life_after_lawful_line (life_at rows line) line t) (none_from_test _ lawful) in
     let going = is_open-lawful rows t (around_of rows t lines line) line refl line.action refl routine n ok in
     rw (going_in-open rows t line.event one going)
 

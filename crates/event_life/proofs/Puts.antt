@@ -9,7 +9,7 @@ use Rattle.hazard_types.specs.Same.{same_zone, same_event}
 use Rattle.hazard_types.specs.declared.hazard.Event.{Event}
 use Rattle.hazard_types.specs.declared.line.Line.{Line}
 use Rattle.hazard_types.specs.declared.line.Row.{Row}
-use Rattle.event_life.specs.Products.{by_key, placed, put, row_at, row_after, is_routine, speaks_of, judged, lawful_of, put_all, rows_after}
+use Rattle.event_life.specs.Products.{by_key, placed, put, row_at, row_after, is_routine, concerns, judged, lawful_of, put_all, rows_after}
 use Rattle.hazard_types.proofs.Equality.{zone_one, event_one}
 use Rattle.event_life.proofs.Keys.{by_key-total, key_exact, key_ties}
 
@@ -113,8 +113,8 @@ unfolding rows_after
 rows_after-sorted rows t lines up = put_all-sorted rows t (lawful_of (judged rows t lines)) rows up
 
 -- a line of the event in the zone is no routine line, and names them
-pub speaks_of-parts : (e : Event) (z : Place) (line : Line) → speaks_of e z line ≡ true → (is_routine line.action ≡ false) × (line.event ≡ e) × (line.zone ≡ z)
-speaks_of-parts e z line h =
+pub concerns-parts : (e : Event) (z : Place) (line : Line) → concerns e z line ≡ true → (is_routine line.action ≡ false) × (line.event ≡ e) × (line.zone ≡ z)
+concerns-parts e z line h =
     let p = and_parts (not (is_routine line.action) && same_event line.event e) _ h in
     let q = and_parts (not (is_routine line.action)) _ p.0 in
     (not-true (is_routine line.action) q.0, event_one line.event e q.1, zone_one line.zone z p.1)

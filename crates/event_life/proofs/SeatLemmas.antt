@@ -4,7 +4,7 @@ use Rattle.std.proofs.lemmas.List.{set_split}
 use Rattle.std.specs.List.{list_any}
 use Rattle.hazard_types.specs.declared.line.Line.{Line}
 use Rattle.hazard_types.specs.declared.line.Row.{Row}
-use Rattle.event_life.specs.Products.{by_key, put, is_upgrade, speaks_of, end_upgraded}
+use Rattle.event_life.specs.Products.{by_key, put, is_upgrade, concerns, end_upgraded}
 use Rattle.event_life.specs.Seats.{end_if_upgraded}
 
 -- the row takes the place of one with its zone and event
@@ -21,6 +21,6 @@ with_end false r = refl
 pub end_upgraded_map : (lines : List Line) (rows : List Row) → end_upgraded lines rows ≡ map (end_if_upgraded lines) rows
 end_upgraded_map lines [] = refl
 end_upgraded_map lines (r ∷ rows) =
-    let upgraded = list_any (λ (line : Line). is_upgrade line.action && speaks_of r.event r.zone line) lines in
+    let upgraded = list_any (λ (line : Line). is_upgrade line.action && concerns r.event r.zone line) lines in
     ap (λ (after : List Row). cond upgraded (record { event = r.event; zone = r.zone; period = r.period; flood = r.flood; ended = true }) r ∷ after) (end_upgraded_map lines rows)
     ∙ ap (λ (after : Row). after ∷ map (end_if_upgraded lines) rows) (with_end upgraded r)

@@ -11,10 +11,10 @@ use Rattle.hazard_types.specs.declared.line.Row.{Row}
 use Rattle.event_life.specs.declared.life.Breach.{Breach}
 use Rattle.event_life.specs.declared.life.Breach.TheVariants.{Twice}
 use Rattle.event_life.specs.Table.{breach_of_line}
-use Rattle.event_life.specs.Products.{put, row_at, life_at, row_after, is_routine, speaks_of, is_second, around_of, breach_in, judged_from, judged, lawful_of, put_all, rows_after}
+use Rattle.event_life.specs.Products.{put, row_at, life_at, row_after, is_routine, concerns, is_second, around_of, breach_in, judged_from, judged, lawful_of, put_all, rows_after}
 use Rattle.event_life.specs.Firsts.{is_lawful, first_line, row_by_first, row_by_first_line}
 use Rattle.event_life.specs.Lives.{steps_of}
-use Rattle.event_life.proofs.Puts.{at_key, row_at-put, speaks_of-parts}
+use Rattle.event_life.proofs.Puts.{at_key, row_at-put, concerns-parts}
 
 -- the breach of a line that is the first of its event in its zone, or a later one
 
@@ -32,15 +32,15 @@ breach_in-first rows t all earlier line p q = rw (p, q)
 abbrev is_kept : List Row → ℕ → List Line → List Line → Line → Bool
 is_kept rows t all earlier line = not (is_routine line.action) && is_none (breach_in rows t all earlier line)
 
-kept-second : (rows : List Row) (t : ℕ) (all earlier : List Line) (e : Event) (z : Place) (line : Line) → speaks_of e z line ≡ true → list_any (speaks_of e z) earlier ≡ true → is_kept rows t all earlier line ≡ false
+kept-second : (rows : List Row) (t : ℕ) (all earlier : List Line) (e : Event) (z : Place) (line : Line) → concerns e z line ≡ true → list_any (concerns e z) earlier ≡ true → is_kept rows t all earlier line ≡ false
 kept-second rows t all earlier e z line s q =
-    let p = speaks_of-parts e z line s in
+    let p = concerns-parts e z line s in
     let second : is_second earlier line ≡ true = rw (p.1, p.2) q in
     rw (p.0, breach_in-second rows t all earlier line p.0 second)
 
-kept-first : (rows : List Row) (t : ℕ) (all earlier : List Line) (e : Event) (z : Place) (line : Line) → speaks_of e z line ≡ true → list_any (speaks_of e z) earlier ≡ false → is_kept rows t all earlier line ≡ is_lawful rows t all line
+kept-first : (rows : List Row) (t : ℕ) (all earlier : List Line) (e : Event) (z : Place) (line : Line) → concerns e z line ≡ true → list_any (concerns e z) earlier ≡ false → is_kept rows t all earlier line ≡ is_lawful rows t all line
 kept-first rows t all earlier e z line s q =
-    let p = speaks_of-parts e z line s in
+    let p = concerns-parts e z line s in
     let first : is_second earlier line ≡ false = rw (p.1, p.2) q in
     rw (p.0, breach_in-first rows t all earlier line p.0 first)
 
@@ -65,28 +65,28 @@ or_some true = refl
 or_some false = refl
 
 module _ (rows : List Row) (t : ℕ) (all : List Line) (e : Event) (z : Place) where
-  spoken_step : (earlier : List Line) (line : Line) (lines : List Line) (s q : Bool) → speaks_of e z line ≡ s → list_any (speaks_of e z) earlier ≡ q →
-      filter (speaks_of e z) (lawful_of (judged_from rows t all (earlier ++ line ∷ []) lines)) ≡ lawful_first rows t all (cond (list_any (speaks_of e z) (earlier ++ line ∷ [])) None (find (speaks_of e z) lines)) →
-      filter (speaks_of e z) (lawful_of (judged_from rows t all earlier (line ∷ lines))) ≡ lawful_first rows t all (cond q None (cond s (Some line) (find (speaks_of e z) lines)))
+  spoken_step : (earlier : List Line) (line : Line) (lines : List Line) (s q : Bool) → concerns e z line ≡ s → list_any (concerns e z) earlier ≡ q →
+      filter (concerns e z) (lawful_of (judged_from rows t all (earlier ++ line ∷ []) lines)) ≡ lawful_first rows t all (cond (list_any (concerns e z) (earlier ++ line ∷ [])) None (find (concerns e z) lines)) →
+      filter (concerns e z) (lawful_of (judged_from rows t all earlier (line ∷ lines))) ≡ lawful_first rows t all (cond q None (cond s (Some line) (find (concerns e z) lines)))
   spoken_step earlier line lines false q h g more =
-      let any : list_any (speaks_of e z) (earlier ++ line ∷ []) ≡ q = list_any-append (speaks_of e z) earlier (line ∷ []) ∙ rw (g, h) (or_none q) in
-      filter-cond (speaks_of e z) line (lawful_of (judged_from rows t all (earlier ++ line ∷ []) lines)) false (is_kept rows t all earlier line) h
-      ∙ more ∙ ap (λ (b : Bool). lawful_first rows t all (cond b None (find (speaks_of e z) lines))) any
+      let any : list_any (concerns e z) (earlier ++ line ∷ []) ≡ q = list_any-append (concerns e z) earlier (line ∷ []) ∙ rw (g, h) (or_none q) in
+      filter-cond (concerns e z) line (lawful_of (judged_from rows t all (earlier ++ line ∷ []) lines)) false (is_kept rows t all earlier line) h
+      ∙ more ∙ ap (λ (b : Bool). lawful_first rows t all (cond b None (find (concerns e z) lines))) any
   spoken_step earlier line lines true true h g more =
-      let any : list_any (speaks_of e z) (earlier ++ line ∷ []) ≡ true = list_any-append (speaks_of e z) earlier (line ∷ []) ∙ rw g in
-      filter-cond (speaks_of e z) line (lawful_of (judged_from rows t all (earlier ++ line ∷ []) lines)) true (is_kept rows t all earlier line) h
+      let any : list_any (concerns e z) (earlier ++ line ∷ []) ≡ true = list_any-append (concerns e z) earlier (line ∷ []) ∙ rw g in
+      filter-cond (concerns e z) line (lawful_of (judged_from rows t all (earlier ++ line ∷ []) lines)) true (is_kept rows t all earlier line) h
       ∙ rw (kept-second rows t all earlier e z line h g) (more ∙ rw any)
   spoken_step earlier line lines true false h g more =
-      let any : list_any (speaks_of e z) (earlier ++ line ∷ []) ≡ true = list_any-append (speaks_of e z) earlier (line ∷ []) ∙ rw (g, h) in
-      let none : filter (speaks_of e z) (lawful_of (judged_from rows t all (earlier ++ line ∷ []) lines)) ≡ [] = more ∙ rw any in
-      filter-cond (speaks_of e z) line (lawful_of (judged_from rows t all (earlier ++ line ∷ []) lines)) true (is_kept rows t all earlier line) h
+      let any : list_any (concerns e z) (earlier ++ line ∷ []) ≡ true = list_any-append (concerns e z) earlier (line ∷ []) ∙ rw (g, h) in
+      let none : filter (concerns e z) (lawful_of (judged_from rows t all (earlier ++ line ∷ []) lines)) ≡ [] = more ∙ rw any in
+      filter-cond (concerns e z) line (lawful_of (judged_from rows t all (earlier ++ line ∷ []) lines)) true (is_kept rows t all earlier line) h
       ∙ rw (kept-first rows t all earlier e z line h g, none)
 
   -- of the lawful lines those that speak of the event in the zone
   pub spoken : (earlier lines : List Line) →
-      filter (speaks_of e z) (lawful_of (judged_from rows t all earlier lines)) ≡ lawful_first rows t all (cond (list_any (speaks_of e z) earlier) None (find (speaks_of e z) lines))
-  spoken earlier [] = elim (list_any (speaks_of e z) earlier) as (λ b. [] ≡ lawful_first rows t all (cond b None None)) [ true ↦ refl | false ↦ refl ]
-  spoken earlier (line ∷ lines) = spoken_step earlier line lines (speaks_of e z line) (list_any (speaks_of e z) earlier) refl refl (spoken (earlier ++ line ∷ []) lines)
+      filter (concerns e z) (lawful_of (judged_from rows t all earlier lines)) ≡ lawful_first rows t all (cond (list_any (concerns e z) earlier) None (find (concerns e z) lines))
+  spoken earlier [] = elim (list_any (concerns e z) earlier) as (λ b. [] ≡ lawful_first rows t all (cond b None None)) [ true ↦ refl | false ↦ refl ]
+  spoken earlier (line ∷ lines) = spoken_step earlier line lines (concerns e z line) (list_any (concerns e z) earlier) refl refl (spoken (earlier ++ line ∷ []) lines)
 
 -- lines that touch a life
 abbrev pub AreTouching : List Line → Type 0
@@ -114,13 +114,13 @@ row_by_last-cond rows t line lines before false = refl
 
 -- only lines that speak of an event in a zone change its row there
 pub row_at-put_all : (rows : List Row) (t : ℕ) (e : Event) (z : Place) (lines : List Line) (after : List Row) → AreTouching lines →
-    row_at (put_all rows t lines after) e z ≡ row_by_last rows t (filter (speaks_of e z) lines) (row_at after e z)
+    row_at (put_all rows t lines after) e z ≡ row_by_last rows t (filter (concerns e z) lines) (row_at after e z)
 row_at-put_all rows t e z [] after touch = refl
 row_at-put_all rows t e z (line ∷ lines) after touch =
-    let own : at_key e z (row_after rows t line) ≡ speaks_of e z line = rw touch.0 in
+    let own : at_key e z (row_after rows t line) ≡ concerns e z line = rw touch.0 in
     row_at-put_all rows t e z lines (put (row_after rows t line) after) touch.1
-    ∙ ap (row_by_last rows t (filter (speaks_of e z) lines)) (row_at-put (row_after rows t line) after e z ∙ ap (λ (b : Bool). cond b (Some (row_after rows t line)) (row_at after e z)) own)
-    ∙ sym (row_by_last-cond rows t line (filter (speaks_of e z) lines) (row_at after e z) (speaks_of e z line))
+    ∙ ap (row_by_last rows t (filter (concerns e z) lines)) (row_at-put (row_after rows t line) after e z ∙ ap (λ (b : Bool). cond b (Some (row_after rows t line)) (row_at after e z)) own)
+    ∙ sym (row_by_last-cond rows t line (filter (concerns e z) lines) (row_at after e z) (concerns e z line))
 
 by_first : (rows : List Row) (t : ℕ) (all : List Line) (before : Option Row) (first : Option Line) → row_by_last rows t (lawful_first rows t all first) before ≡ row_by_first rows t all before first
 by_first rows t all before None = refl
@@ -144,8 +144,8 @@ steps-cond issue line lines true = refl
 steps-cond issue line lines false = refl
 
 -- steps are those of the lines that speak of the event in the zone
-pub steps_of-lines : (issue : ℕ) (e : Event) (z : Place) (lines : List Line) → steps_of issue e z lines ≡ map (step_of issue) (filter (speaks_of e z) lines)
+pub steps_of-lines : (issue : ℕ) (e : Event) (z : Place) (lines : List Line) → steps_of issue e z lines ≡ map (step_of issue) (filter (concerns e z) lines)
 steps_of-lines issue e z [] = refl
 steps_of-lines issue e z (line ∷ lines) =
-    ap (λ (steps : List (Action × ℕ)). cond (speaks_of e z line) (step_of issue line ∷ steps) steps) (steps_of-lines issue e z lines)
-    ∙ sym (steps-cond issue line (filter (speaks_of e z) lines) (speaks_of e z line))
+    ap (λ (steps : List (Action × ℕ)). cond (concerns e z line) (step_of issue line ∷ steps) steps) (steps_of-lines issue e z lines)
+    ∙ sym (steps-cond issue line (filter (concerns e z) lines) (concerns e z line))

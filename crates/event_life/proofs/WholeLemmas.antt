@@ -9,14 +9,14 @@ use Rattle.hazard_types.specs.declared.hazard.Event.{Event}
 use Rattle.hazard_types.specs.declared.line.Line.{Line}
 use Rattle.hazard_types.specs.declared.line.Row.{Row}
 use Rattle.event_life.specs.declared.life.Breach.{Breach}
-use Rattle.event_life.specs.Products.{Product, is_routine, speaks_of, judged_from, breach_in, lawful_of, lines_of, rows_with}
+use Rattle.event_life.specs.Products.{Product, is_routine, concerns, judged_from, breach_in, lawful_of, lines_of, rows_with}
 use Rattle.event_life.specs.Lives.{judged_product, steps_of, track_from, track_of, said_from, said_of, AreLawful, IsLawfulFrom, IsLawfulLife}
 
 -- one line more in front
 
 module _ (t : ℕ) (e : Event) (z : Place) where
   abbrev step_in : Line → List (Action × ℕ) → List (Action × ℕ)
-  step_in line steps = cond (speaks_of e z line) ((line.action, t) ∷ steps) steps
+  step_in line steps = cond (concerns e z line) ((line.action, t) ∷ steps) steps
 
   kept_steps : (line : Line) (lines : List Line) (keep : Bool) → steps_of t e z (cond keep (line ∷ lines) lines) ≡ cond keep (step_in line (steps_of t e z lines)) (steps_of t e z lines)
   kept_steps line lines true = refl
@@ -46,10 +46,10 @@ module _ (t : ℕ) (e : Event) (z : Place) where
     fewer_lawful earlier [] = omega arith
     fewer_lawful earlier (line ∷ lines) =
         rw (lawful_steps earlier line lines)
-        (fewer_cons (speaks_of e z line) (keep_of earlier line) (line.action, t) (steps_of t e z (lawful_of (judged_from rows t all (earlier ++ line ∷ []) lines))) (steps_of t e z lines)
+        (fewer_cons (concerns e z line) (keep_of earlier line) (line.action, t) (steps_of t e z (lawful_of (judged_from rows t all (earlier ++ line ∷ []) lines))) (steps_of t e z lines)
         (fewer_lawful (earlier ++ line ∷ []) lines))
 
-    none_kept : (line : Line) (o : Option Breach) → (speaks_of e z line ≡ true → (not (is_routine line.action) && is_none o) ≡ true) → speaks_of e z line ≡ true → o ≡ None
+    none_kept : (line : Line) (o : Option Breach) → (concerns e z line ≡ true → (not (is_routine line.action) && is_none o) ≡ true) → concerns e z line ≡ true → o ≡ None
     none_kept line None h s = refl
     none_kept line (Some breach) h s = let p = and_parts (not (is_routine line.action)) false (h s) in let f = p.1 in cc
 
@@ -57,7 +57,7 @@ module _ (t : ℕ) (e : Event) (z : Place) where
     pub lawful_from_whole : (earlier lines : List Line) → length (steps_of t e z (lawful_of (judged_from rows t all earlier lines))) ≡ length (steps_of t e z lines) → AreLawful e z (judged_from rows t all earlier lines)
     lawful_from_whole earlier [] h = tt
     lawful_from_whole earlier (line ∷ lines) h =
-        let p = same_cons (speaks_of e z line) (keep_of earlier line) (line.action, t) (steps_of t e z (lawful_of (judged_from rows t all (earlier ++ line ∷ []) lines))) (steps_of t e z lines)
+        let p = same_cons (concerns e z line) (keep_of earlier line) (line.action, t) (steps_of t e z (lawful_of (judged_from rows t all (earlier ++ line ∷ []) lines))) (steps_of t e z lines)
         (fewer_lawful (earlier ++ line ∷ []) lines) (ap length (sym (lawful_steps earlier line lines)) ∙ h) in
         (none_kept line (breach_in rows t all earlier line) p.1, lawful_from_whole (earlier ++ line ∷ []) lines p.0)
 
@@ -71,7 +71,7 @@ module _ (t : ℕ) (e : Event) (z : Place) where
     whole_cons line (Some breach) xs ys false true own h e = e
     whole_cons line (Some breach) xs ys false false own h e = e
 
-    own_line : (line : Line) → speaks_of e z line ≡ true → is_routine line.action ≡ false
+    own_line : (line : Line) → concerns e z line ≡ true → is_routine line.action ≡ false
     own_line line s =
         let p = and_parts (not (is_routine line.action) && same_event line.event e) _ s in
         not-true (is_routine line.action) (and_parts (not (is_routine line.action)) _ p.0).0
@@ -81,7 +81,7 @@ module _ (t : ℕ) (e : Event) (z : Place) where
     whole_from_lawful earlier [] h = refl
     whole_from_lawful earlier (line ∷ lines) h =
         lawful_steps earlier line lines
-        ∙ whole_cons line (breach_in rows t all earlier line) (steps_of t e z (lawful_of (judged_from rows t all (earlier ++ line ∷ []) lines))) (steps_of t e z lines) (speaks_of e z line) (is_routine line.action)
+        ∙ whole_cons line (breach_in rows t all earlier line) (steps_of t e z (lawful_of (judged_from rows t all (earlier ++ line ∷ []) lines))) (steps_of t e z lines) (concerns e z line) (is_routine line.action)
         (own_line line) h.0 (whole_from_lawful (earlier ++ line ∷ []) lines h.1)
 
 -- over products

@@ -4,12 +4,12 @@ use Rattle.hazard_types.specs.Places.{Place}
 use Rattle.hazard_types.specs.declared.hazard.Event.{Event}
 use Rattle.hazard_types.specs.declared.line.Line.{Line}
 use Rattle.hazard_types.specs.declared.line.Row.{Row}
-use Rattle.event_life.specs.Products.{speaks_of, life_at, around_of, row_at, row_after}
+use Rattle.event_life.specs.Products.{concerns, life_at, around_of, row_at, row_after}
 use Rattle.event_life.specs.Table.{breach_of_line}
 
 -- the first of the lines that speak of the event in the zone
 abbrev pub first_line : List Line → Event → Place → Option Line
-first_line lines e z = find (speaks_of e z) lines
+first_line lines e z = find (concerns e z) lines
 
 -- the line has no breach, judged by the rows before its product
 abbrev pub is_lawful : List Row → ℕ → List Line → Line → Bool

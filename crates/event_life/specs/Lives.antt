@@ -8,7 +8,7 @@ use Rattle.hazard_types.specs.declared.hazard.Event.{Event}
 use Rattle.hazard_types.specs.declared.line.Line.{Line}
 use Rattle.hazard_types.specs.declared.line.Row.{Row}
 use Rattle.event_life.specs.declared.life.Breach.{Breach}
-use Rattle.event_life.specs.Products.{Product, speaks_of, judged, lawful_of, lines_of, rows_with}
+use Rattle.event_life.specs.Products.{Product, concerns, judged, lawful_of, lines_of, rows_with}
 
 -- the lines of a product, each with its breach
 abbrev pub judged_product : List Row → Product → List (Line × Option Breach)
@@ -17,7 +17,7 @@ judged_product rows p = judged rows p.issue (lines_of rows p.issue p.said)
 -- action and issue minute of those lines that speak of the event in the zone
 abbrev pub steps_of : ℕ → Event → Place → List Line → List (Action × ℕ)
 steps_of issue e z [] = []
-steps_of issue e z (line ∷ lines) = if speaks_of e z line then (line.action, issue) ∷ steps_of issue e z lines else steps_of issue e z lines
+steps_of issue e z (line ∷ lines) = if concerns e z line then (line.action, issue) ∷ steps_of issue e z lines else steps_of issue e z lines
 
 abbrev pub track_from : List Row → List Product → Event → Place → List (Action × ℕ)
 track_from rows [] e z = []
@@ -38,7 +38,7 @@ said_of products e z = said_from [] products e z
 -- none of the lines that speak of the event in the zone has a breach
 abbrev pub AreLawful : Event → Place → List (Line × Option Breach) → Type 0
 AreLawful e z [] = Unit {0}
-AreLawful e z (l ∷ ls) = (speaks_of e z l.0 ≡ true → l.1 ≡ None) × AreLawful e z ls
+AreLawful e z (l ∷ ls) = (concerns e z l.0 ≡ true → l.1 ≡ None) × AreLawful e z ls
 
 abbrev pub IsLawfulFrom : List Row → List Product → Event → Place → Type 0
 IsLawfulFrom rows [] e z = Unit {0}

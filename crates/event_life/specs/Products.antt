@@ -24,7 +24,7 @@ use Rattle.event_life.specs.declared.life.Breach.{Breach}
 use Rattle.event_life.specs.declared.life.Breach.TheVariants.{Twice}
 use Rattle.event_life.specs.Higher.{may_yield, outranks}
 use Rattle.event_life.specs.Periods.{is_live, keeps_open, same_at, overlaps}
-use Rattle.event_life.specs.Table.{opened_period, breach_of_line, life_after}
+use Rattle.event_life.specs.Table.{opened_period, breach_of_line, life_after_lawful_line}
 
 -- Rows stand by zone, then event, each pair once.
 
@@ -84,34 +84,34 @@ is_upgrade action.Upg = true
 is_upgrade _ = false
 
 -- a line of this event in this zone
-abbrev pub speaks_of : Event → Place → Line → Bool
-speaks_of e z line = not (is_routine line.action) && same_event line.event e && same_zone line.zone z
+abbrev pub concerns : Event → Place → Line → Bool
+concerns e z line = not (is_routine line.action) && same_event line.event e && same_zone line.zone z
 
 -- one of the earlier lines speaks of its event in its zone
 abbrev pub is_second : List Line → Line → Bool
-is_second earlier line = list_any (speaks_of line.event line.zone) earlier
+is_second earlier line = list_any (concerns line.event line.zone) earlier
 
 abbrev pub row_of : Line → Life → Row
 row_of line life = record { event = line.event; zone = line.zone; period = life.period; flood = life.flood; ended = life.ended }
 
 -- the row that a lawful line leaves
 abbrev pub row_after : List Row → ℕ → Line → Row
-row_after rows t line = row_of line (life_after (life_at rows line) line t)
+row_after rows t line = row_of line (life_after_lawful_line (life_at rows line) line t)
 
 -- the rows after the lawful lines other than UPG, each judged by the rows before
-abbrev pub put_but_upgrades : List Row → ℕ → List Line → List Line → List Row → List Row
-put_but_upgrades rows t earlier [] after = after
-put_but_upgrades rows t earlier (line ∷ lines) after = put_but_upgrades rows t (earlier ++ line ∷ []) lines
+abbrev pub rows_after_all_but_upgrades : List Row → ℕ → List Line → List Line → List Row → List Row
+rows_after_all_but_upgrades rows t earlier [] after = after
+rows_after_all_but_upgrades rows t earlier (line ∷ lines) after = rows_after_all_but_upgrades rows t (earlier ++ line ∷ []) lines
     (if not (is_routine line.action) && not (is_upgrade line.action) && not (is_second earlier line) && is_none (breach_of_line (life_at rows line) line t (around_but_higher rows t line true))
     then put (row_after rows t line) after else after)
 
 -- these, with each row that has a UPG line as ended
 abbrev pub end_upgraded : List Line → List Row → List Row
 end_upgraded lines [] = []
-end_upgraded lines (r ∷ rows) = (if list_any (λ (line : Line). is_upgrade line.action && speaks_of r.event r.zone line) lines then record { event = r.event; zone = r.zone; period = r.period; flood = r.flood; ended = true } else r) ∷ end_upgraded lines rows
+end_upgraded lines (r ∷ rows) = (if list_any (λ (line : Line). is_upgrade line.action && concerns r.event r.zone line) lines then record { event = r.event; zone = r.zone; period = r.period; flood = r.flood; ended = true } else r) ∷ end_upgraded lines rows
 
 abbrev pub rows_for_higher : List Row → ℕ → List Line → List Row
-rows_for_higher rows t lines = end_upgraded lines (put_but_upgrades rows t [] lines rows)
+rows_for_higher rows t lines = end_upgraded lines (rows_after_all_but_upgrades rows t [] lines rows)
 
 -- one of the rows is live, of a higher rank of the family, and overlaps this row in its zone
 abbrev pub is_overlapped : List Row → ℕ → Option Row → Bool

@@ -3,7 +3,7 @@ use Rattle.std.specs.Prelude.{◌&&◌, ◌||◌, not, ℕ, ◌<◌, ◌≤◌, 
 use Rattle.std.specs.List.{insert, list_any}
 use Rattle.hazard_types.specs.declared.line.Line.{Line}
 use Rattle.hazard_types.specs.declared.line.Row.{Row}
-use Rattle.event_life.specs.Products.{is_routine, is_upgrade, speaks_of, is_second, life_at, around_but_higher}
+use Rattle.event_life.specs.Products.{is_routine, is_upgrade, concerns, is_second, life_at, around_but_higher}
 use Rattle.event_life.specs.Table.{breach_of_line}
 
 -- the rows with the row in the place of another, or before what stands at a place
@@ -21,7 +21,7 @@ may_count rows t earlier line = not (is_routine line.action) && not (is_upgrade 
 
 -- a UPG line speaks of the row
 abbrev pub is_upgraded : List Line → Row → Bool
-is_upgraded lines r = list_any (λ (line : Line). is_upgrade line.action && speaks_of r.event r.zone line) lines
+is_upgraded lines r = list_any (λ (line : Line). is_upgrade line.action && concerns r.event r.zone line) lines
 
 -- the row, ended where it is so
 abbrev pub end_if_upgraded : List Line → Row → Row

@@ -30,9 +30,9 @@ flood_after (Some old) None = Some old
 flood_after (Some old) (Some new) = Some new
 
 -- the begin that is printed is the one of a period that begins then; a zero begin is a period that has begun
-abbrev pub prints_begin : Option ℕ → ℕ → ℕ → Bool
-prints_begin None begin t = nat_le begin t
-prints_begin (Some printed) begin t = nat_lt t begin
+abbrev pub prints_begin_as_due : Option ℕ → ℕ → ℕ → Bool
+prints_begin_as_due None begin t = nat_le begin t
+prints_begin_as_due (Some printed) begin t = nat_lt t begin
 
 -- it differs from the begin of the period
 abbrev pub moves_begin : Option ℕ → ℕ → Bool
@@ -95,7 +95,7 @@ on_continuing life line t last =
 abbrev pub on_ending : Life → Line → ℕ → List (Bool × Breach) → List (Bool × Breach)
 on_ending life line t more =
     (life.ended named NotLive)
-    ∷ (not (prints_begin line.begin life.period.begin t) named ZeroBegin)
+    ∷ (not (prints_begin_as_due line.begin life.period.begin t) named ZeroBegin)
     ∷ ((moves_begin line.begin life.period.begin || not (same_end line.end life.period.end)) named PeriodMoved)
     ∷ more
 
@@ -140,18 +140,18 @@ breach_of_line None line t around = first_of (on_nothing line.action line t arou
 breach_of_line (Some life) line t around = first_of (on_life line.action life line t around)
 
 -- what a lawful line leaves of a life; NEW, EXA and EXB make it anew
-abbrev pub left_of_life : Action → Life → Line → ℕ → Life
-left_of_life Con life line t = record { period = continued_period life line t; flood = flood_after life.flood line.flood; ended = false }
-left_of_life Cor life line t = record { period = continued_period life line t; flood = flood_after life.flood line.flood; ended = false }
-left_of_life Ext life line t = record { period = continued_period life line t; flood = flood_after life.flood line.flood; ended = false }
-left_of_life Can life line t = record { period = life.period; flood = flood_after life.flood line.flood; ended = true }
-left_of_life Exp life line t = record { period = life.period; flood = flood_after life.flood line.flood; ended = true }
-left_of_life Upg life line t = record { period = life.period; flood = flood_after life.flood line.flood; ended = true }
-left_of_life _ life line t = record { period = opened_period line t; flood = line.flood; ended = false }
+abbrev pub life_after_line : Action → Life → Line → ℕ → Life
+life_after_line Con life line t = record { period = continued_period life line t; flood = flood_after life.flood line.flood; ended = false }
+life_after_line Cor life line t = record { period = continued_period life line t; flood = flood_after life.flood line.flood; ended = false }
+life_after_line Ext life line t = record { period = continued_period life line t; flood = flood_after life.flood line.flood; ended = false }
+life_after_line Can life line t = record { period = life.period; flood = flood_after life.flood line.flood; ended = true }
+life_after_line Exp life line t = record { period = life.period; flood = flood_after life.flood line.flood; ended = true }
+life_after_line Upg life line t = record { period = life.period; flood = flood_after life.flood line.flood; ended = true }
+life_after_line _ life line t = record { period = opened_period line t; flood = line.flood; ended = false }
 
-unfoldable pub life_after : Option Life → Line → ℕ → Life
-life_after None line t = record { period = opened_period line t; flood = line.flood; ended = false }
-life_after (Some life) line t = left_of_life line.action life line t
+unfoldable pub life_after_lawful_line : Option Life → Line → ℕ → Life
+life_after_lawful_line None line t = record { period = opened_period line t; flood = line.flood; ended = false }
+life_after_lawful_line (Some life) line t = life_after_line line.action life line t
 
 -- the breach, or else the value
 abbrev pub unless_breach : {X : Type 0} → Option Breach → X → Result X Breach
@@ -160,4 +160,4 @@ unless_breach (Some breach) x = Err breach
 
 -- one step: the first breach, or the life after the line
 abbrev pub step : Option Life → Line → ℕ → Around → Result Life Breach
-step before line t around = unless_breach (breach_of_line before line t around) (life_after before line t)
+step before line t around = unless_breach (breach_of_line before line t around) (life_after_lawful_line before line t)

@@ -3,7 +3,7 @@ ghost use Rattle.std.specs.Prelude.{◌≡◌, ◌≢◌, unwrap_or, min, [], �
 ghost use Rattle.hazard_types.specs.declared.codes.Action.TheVariants.{Rou};
 ghost use Rattle.event_life.specs.declared.life.Breach.TheVariants.{TooLate, TooEarly, NoHigher};
 ghost use Rattle.event_life.specs.Periods.{ends_after};
-ghost use Rattle.event_life.specs.Table.{◌named◌, first_of, on_new, on_joining, on_continuing, on_ending, on_life, on_nothing, continued_period, opened_period, stays, prints_past, prints_later, prints_begin, moves_begin, cancels_late, expires_early, expires_late, flood_after, left_of_life, breach_of_line, life_after, step};
+ghost use Rattle.event_life.specs.Table.{◌named◌, first_of, on_new, on_joining, on_continuing, on_ending, on_life, on_nothing, continued_period, opened_period, stays, prints_past, prints_later, prints_begin_as_due, moves_begin, cancels_late, expires_early, expires_late, flood_after, life_after_line, breach_of_line, life_after_lawful_line, step};
 
 use crate::periods::{ends_after, same_at, same_end};
 use hazard_types::{Action, End, Flood, Line, Minute, Period};
@@ -202,8 +202,8 @@ fn stays(life: &Life, line: &Line, t: Minute) -> bool
 }
 
 /// Whether a line prints a begin if `begin` is to come, and zeros if it has come.
-fn prints_begin(line: &Line, begin: Minute, t: Minute) -> bool
-    ensures { result ≡ prints_begin line.now.begin begin t }
+fn prints_begin_as_due(line: &Line, begin: Minute, t: Minute) -> bool
+    ensures { result ≡ prints_begin_as_due line.now.begin begin t }
 {
     match &line.begin {
         Some(_) => t.get() < begin.get(),
@@ -227,7 +227,7 @@ fn ending_breach(life: &Life, line: &Line, t: Minute) -> Option<Breach>
 {
     if life.ended {
         Some(Breach::NotLive)
-    } else if !prints_begin(line, life.period.begin, t) {
+    } else if !prints_begin_as_due(line, life.period.begin, t) {
         Some(Breach::ZeroBegin)
     } else if moves_begin(line, life.period.begin) || !same_end(&line.end, &life.period.end) {
         Some(Breach::PeriodMoved)
@@ -358,8 +358,8 @@ fn opened_life(line: &Line, t: Minute) -> Life
 }
 
 /// Returns what a lawful line leaves of a life. NEW, EXA and EXB start a life over.
-fn left_of_life(life: &Life, line: &Line, t: Minute) -> Life
-    ensures { result ≡ left_of_life line.now.action life.now line.now t }
+fn life_after_line(life: &Life, line: &Line, t: Minute) -> Life
+    ensures { result ≡ life_after_line line.now.action life.now line.now t }
 {
     match line.action {
         Action::Con | Action::Cor | Action::Ext => Life {
@@ -377,12 +377,12 @@ fn left_of_life(life: &Life, line: &Line, t: Minute) -> Life
 }
 
 /// Returns the life that a lawful line leaves.
-#[tactic(auto, unfolding(crate::specs::Table::life_after))]
-pub(crate) fn life_after(life: &Option<Life>, line: &Line, t: Minute) -> Life
-    ensures { result ≡ life_after life.now line.now t }
+#[tactic(auto, unfolding(crate::specs::Table::life_after_lawful_line))]
+pub(crate) fn life_after_lawful_line(life: &Option<Life>, line: &Line, t: Minute) -> Life
+    ensures { result ≡ life_after_lawful_line life.now line.now t }
 {
     match life {
-        Some(life) => left_of_life(life, line, t),
+        Some(life) => life_after_line(life, line, t),
         None => opened_life(line, t),
     }
 }
@@ -401,6 +401,6 @@ pub fn life_step(life: Option<Life>, line: &Line, t: Minute, around: Around) -> 
 {
     match breach_of_line(&life, line, t, around) {
         Some(breach) => Err(breach),
-        None => Ok(life_after(&life, line, t)),
+        None => Ok(life_after_lawful_line(&life, line, t)),
     }
 }

@@ -1,11 +1,11 @@
 //! The rows after the lines of a product.
 ghost use Rattle.std.specs.Prelude.{◌≡◌, ◌≤◌, ◌<◌, ◌&&◌, not, [], length, map, is_none, IfOk, OnOk, OnErr};
 ghost use Rattle.std.specs.Vec.{vec_capacity};
-ghost use Rattle.event_life.specs.Products.{by_key, put, row_of, row_after, is_routine, is_upgrade, speaks_of, is_second, put_but_upgrades, rows_for_higher};
+ghost use Rattle.event_life.specs.Products.{by_key, put, row_of, row_after, is_routine, is_upgrade, concerns, is_second, rows_after_all_but_upgrades, rows_for_higher};
 ghost use Rattle.event_life.specs.Seats.{seated, IsSeat, is_upgraded, end_if_upgraded, may_count};
 ghost use Rattle.event_life.specs.Shown.{shown_at};
 
-use crate::life::{Breach, Life, breach_of_line, life_after};
+use crate::life::{Breach, Life, breach_of_line, life_after_lawful_line};
 use crate::periods::is_live;
 use crate::rows::{around, life_at};
 use hazard_types::{Action, Event, Line, List, Minute, Oom, Row, Zone};
@@ -70,8 +70,8 @@ pub fn is_upgrade(action: &Action) -> bool
 }
 
 /// Whether a line is of the event and zone; a routine line is of none.
-pub(crate) fn speaks_of(event: &Event, zone: &Zone, line: &Line) -> bool
-    ensures { result ≡ speaks_of event.now zone.now line.now }
+pub(crate) fn concerns(event: &Event, zone: &Zone, line: &Line) -> bool
+    ensures { result ≡ concerns event.now zone.now line.now }
 {
     !is_routine(&line.action) && line.event == *event && line.zone == *zone
 }
@@ -82,7 +82,7 @@ pub(crate) fn is_second(earlier: &[Line], line: &Line) -> bool
 {
     earlier
         .iter()
-        .any(|other| speaks_of(&line.event, &line.zone, other))
+        .any(|other| concerns(&line.event, &line.zone, other))
 }
 
 /// Whether a line that was judged has no breach and is not ROU.
@@ -111,7 +111,7 @@ pub fn row_of(line: &Line, life: &Life) -> Row
 pub fn row_after(rows: &[Row], t: Minute, line: &Line) -> Row
     ensures { result ≡ row_after rows.now t line.now }
 {
-    row_of(line, &life_after(&life_at(rows, line), line, t))
+    row_of(line, &life_after_lawful_line(&life_at(rows, line), line, t))
 }
 
 /// Whether a line is lawful and neither UPG nor ROU, so that its row may be the higher row of a UPG
@@ -128,9 +128,14 @@ pub fn may_count(rows: &[Row], t: Minute, earlier: &[Line], line: &Line) -> bool
 }
 
 /// Returns the rows after the lawful lines other than UPG.
-fn put_but_upgrades(alloc: Global, rows: &[Row], t: Minute, lines: &[Line]) -> Result<Vec<Row>, Oom>
+fn rows_after_all_but_upgrades(
+    alloc: Global,
+    rows: &[Row],
+    t: Minute,
+    lines: &[Line],
+) -> Result<Vec<Row>, Oom>
     ensures { IfOk result
-        (λ after. after.items ≡ put_but_upgrades rows.now t [] lines.now rows.now) }
+        (λ after. after.items ≡ rows_after_all_but_upgrades rows.now t [] lines.now rows.now) }
 {
     let mut after = Vec::from_slice(alloc, rows)?;
     for (place, line) in lines.iter().enumerate() {
@@ -145,7 +150,7 @@ fn put_but_upgrades(alloc: Global, rows: &[Row], t: Minute, lines: &[Line]) -> R
 fn is_upgraded(lines: &[Line], row: &Row) -> bool
     ensures { result ≡ is_upgraded lines.now row.now }
 {
-    lines.iter().any(|line| is_upgrade(&line.action) && speaks_of(&row.event, &row.zone, line))
+    lines.iter().any(|line| is_upgrade(&line.action) && concerns(&row.event, &row.zone, line))
 }
 
 /// Returns the row, as ended if a UPG line is of it.
@@ -187,7 +192,7 @@ pub(crate) fn rows_for_higher(
 ) -> Result<Vec<Row>, Oom>
     ensures { IfOk result (λ after. after.items ≡ rows_for_higher rows.now t lines.now) }
 {
-    let after = put_but_upgrades(alloc, rows, t, lines)?;
+    let after = rows_after_all_but_upgrades(alloc, rows, t, lines)?;
     Ok(end_upgraded(alloc, lines, &after)?)
 }
 

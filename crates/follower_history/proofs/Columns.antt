@@ -143,8 +143,8 @@ module _ (lines : List Line) (segments : List Segment) (are : AreSegments lines 
       let line = all_at IsLineInRange lines w.0 own w.1 in
       subst IsSaidInRange w.3 (record { begin = line.begin; end = line.end; flood = line.flood })
 
-  zone_in : (s : Segment) → Has segments s → (z : Place) → Has s.zones z → IsPlace z
-  zone_in s has z mine =
+  parse_zone : (s : Segment) → Has segments s → (z : Place) → Has s.zones z → IsPlace z
+  parse_zone s has z mine =
       let l = has_some s.lines (full s has).1 in
       let w = (said lines segments are z l.0).0 (s, has, mine, l.1) in
       subst IsPlace w.2 (all_at IsLineInRange lines w.0 own w.1).zone
@@ -153,7 +153,7 @@ module _ (lines : List Line) (segments : List Segment) (are : AreSegments lines 
   codes_back settings class plan t same can =
       let Places : Segment → Type 0 = λ s. AllByRecursion IsPlace s.zones in
       let Said : Segment → Type 0 = λ s. AllByRecursion IsSaidInRange s.lines in
-      let places : AllByRecursion Places segments = all_from Places segments (λ s has. all_from IsPlace s.zones (zone_in s has)) in
+      let places : AllByRecursion Places segments = all_from Places segments (λ s has. all_from IsPlace s.zones (parse_zone s has)) in
       let lines_are : AllByRecursion Said segments = all_from Said segments (λ s has. all_from IsSaidInRange s.lines (said_in s has)) in
       All-from_recursion ReadsBack (map (segment_of class settings.office t) plan.segments)
       (segments_back class settings.office t plan.segments can.forms.office_form (recursion_from_All CanBeSegment plan.segments can.segments)

@@ -19,7 +19,7 @@ use Rattle.office_types.specs.declared.request.Target.TheVariants.{Fresh, Join}
 use Rattle.event_life.specs.declared.life.Life.{Life}
 use Rattle.event_life.specs.Products.{life_of, row_after, row_at, rows_after}
 use Rattle.event_life.specs.Reordered.{are_lawful}
-use Rattle.event_life.specs.Table.{flood_after, left_of_life, life_after}
+use Rattle.event_life.specs.Table.{flood_after, life_after_line, life_after_lawful_line}
 use Rattle.event_life.proofs.LawfulLemmas.{touches}
 use Rattle.event_life.proofs.Puts.{at_key}
 use Rattle.event_numbers.specs.declared.Count.{Count}
@@ -151,7 +151,7 @@ module _ (rows : List Row) (t : ℕ) (minute : IsMinute t) (own : AllByRecursion
   anew : (line : Line) → IsLineInRange line → IsLifeInRange (record { period = record { begin = unwrap_or line.begin t; end = line.end }; flood = line.flood; ended = false })
   anew line h = record { begin = given_in line.begin t h.begin minute; end = h.end; flood = h.flood }
 
-  left_in : (a : Action) (life : Life) (line : Line) → IsLifeInRange life → IsLineInRange line → IsLifeInRange (left_of_life a life line t)
+  left_in : (a : Action) (life : Life) (line : Line) → IsLifeInRange life → IsLineInRange line → IsLifeInRange (life_after_line a life line t)
   left_in Con life line was h = record { begin = given_in line.begin _ h.begin (lesser_in life.period.begin t minute); end = h.end; flood = flood_in life.flood line.flood was.flood h.flood }
   left_in Cor life line was h = record { begin = given_in line.begin _ h.begin (lesser_in life.period.begin t minute); end = h.end; flood = flood_in life.flood line.flood was.flood h.flood }
   left_in Ext life line was h = record { begin = given_in line.begin _ h.begin (lesser_in life.period.begin t minute); end = h.end; flood = flood_in life.flood line.flood was.flood h.flood }
@@ -160,8 +160,8 @@ module _ (rows : List Row) (t : ℕ) (minute : IsMinute t) (own : AllByRecursion
   left_in Upg life line was h = record { begin = was.begin; end = was.end; flood = flood_in life.flood line.flood was.flood h.flood }
   left_in _ life line was h = anew line h
 
-  life_in : (o : Option Row) (line : Line) → ((row : Row) → o ≡ Some row → IsRowInRange row) → IsLineInRange line → IsLifeInRange (life_after (option_map life_of o) line t)
-  unfolding life_after
+  life_in : (o : Option Row) (line : Line) → ((row : Row) → o ≡ Some row → IsRowInRange row) → IsLineInRange line → IsLifeInRange (life_after_lawful_line (option_map life_of o) line t)
+  unfolding life_after_lawful_line
   life_in None line of_row h = anew line h
   life_in (Some row) line of_row h = let r = of_row row refl in left_in line.action (life_of row) line (record { begin = r.begin; end = r.end; flood = r.flood }) h
 

@@ -12,7 +12,7 @@ use Rattle.event_life.specs.declared.life.Life.{Life}
 use Rattle.event_life.specs.Lives.{opens}
 use Rattle.event_life.specs.Periods.{ends_after, same_end}
 use Rattle.event_life.specs.Products.{is_routine, life_at, row_after}
-use Rattle.event_life.specs.Table.{first_of, on_life, on_nothing, prints_begin, moves_begin, breach_of_line}
+use Rattle.event_life.specs.Table.{first_of, on_life, on_nothing, prints_begin_as_due, moves_begin, breach_of_line}
 use Rattle.hazard_board.specs.Taken.{wanted, row_left}
 
 -- the tests of a list without a breach
@@ -53,7 +53,7 @@ alone_on_life : (a : Action) (life : Life) (line : Line) (t : ℕ) (around : Aro
 alone_on_life New life line t around h = opened_new (not life.ended) around.opened around.held (is_none line.begin) (nat_lt (unwrap_or line.begin t) t) (not (ends_after line.end (unwrap_or line.begin t))) Reopened NumberHeld ZeroBegin TooEarly NoLength h
 alone_on_life Exa life line t around h = joined (not life.ended) (not around.going) (nat_lt (unwrap_or line.begin t) t) (not (ends_after line.end (unwrap_or line.begin t))) (not around.same) false Reopened NotOpening TooEarly NoLength PeriodMoved h refl
 alone_on_life Exb life line t around h = joined (not life.ended) (not around.going) (nat_lt (unwrap_or line.begin t) t) (not (ends_after line.end (unwrap_or line.begin t))) around.same false Reopened NotOpening TooEarly NoLength PeriodSame h refl
-alone_on_life Upg life line t around h = upgraded life.ended (not (prints_begin line.begin life.period.begin t)) (moves_begin line.begin life.period.begin || not (same_end line.end life.period.end)) (not (ends_after life.period.end t)) (not around.higher) NotLive ZeroBegin PeriodMoved TooLate NoHigher h
+alone_on_life Upg life line t around h = upgraded life.ended (not (prints_begin_as_due line.begin life.period.begin t)) (moves_begin line.begin life.period.begin || not (same_end line.end life.period.end)) (not (ends_after life.period.end t)) (not around.higher) NotLive ZeroBegin PeriodMoved TooLate NoHigher h
 alone_on_life _ life line t around h = h
 
 alone_on_nothing : (a : Action) (line : Line) (t : ℕ) (around : Around) → first_of (on_nothing a line t around) ≡ None → first_of (on_nothing a line t (wanted a)) ≡ None

@@ -14,7 +14,7 @@ use Rattle.event_life.specs.declared.life.Life.{Life}
 use Rattle.event_life.specs.Periods.{ends_after, same_end}
 use Rattle.event_life.specs.Products.{put, life_at, row_after, is_routine, is_second, around_of, breach_in, judged_from, put_all, rows_after}
 use Rattle.event_life.specs.Reordered.{are_lawful}
-use Rattle.event_life.specs.Table.{first_of, on_new, on_life, on_nothing, prints_begin, moves_begin, breach_of_line}
+use Rattle.event_life.specs.Table.{first_of, on_new, on_life, on_nothing, prints_begin_as_due, moves_begin, breach_of_line}
 use Rattle.event_life.proofs.LawfulLemmas.{HaveNoBreach, lawful_of-without_breach}
 use Rattle.event_life.proofs.LivesLemmas.{none_from_test}
 use Rattle.hazard_board.specs.Held.{touches, rows_left, around_freed, breach_but_held, HaveNoneButHeld}
@@ -62,7 +62,7 @@ free_new stands line t around h =
 
 free_on_life : (a : Action) (life : Life) (line : Line) (t : ℕ) (around : Around) → first_of (on_life a life line t around) ≡ None → first_of (on_life a life line t (freed around)) ≡ None
 free_on_life New life line t around h = free_new (not life.ended) line t around h
-free_on_life Upg life line t around h = upgraded life.ended (not (prints_begin line.begin life.period.begin t)) (moves_begin line.begin life.period.begin || not (same_end line.end life.period.end)) (not (ends_after life.period.end t)) (not around.higher) NotLive ZeroBegin PeriodMoved TooLate NoHigher h
+free_on_life Upg life line t around h = upgraded life.ended (not (prints_begin_as_due line.begin life.period.begin t)) (moves_begin line.begin life.period.begin || not (same_end line.end life.period.end)) (not (ends_after life.period.end t)) (not around.higher) NotLive ZeroBegin PeriodMoved TooLate NoHigher h
 free_on_life _ life line t around h = h
 
 free_on_nothing : (a : Action) (line : Line) (t : ℕ) (around : Around) → first_of (on_nothing a line t around) ≡ None → first_of (on_nothing a line t (freed around)) ≡ None

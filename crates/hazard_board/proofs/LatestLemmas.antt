@@ -20,7 +20,7 @@ use Rattle.event_life.specs.Products.{by_key, placed, put, row_at, life_at, life
 use Rattle.event_life.specs.Reordered.{are_lawful}
 use Rattle.event_life.specs.declared.life.Breach.TheVariants.{ZeroBegin, BegunMoved, NoLength, PeriodMoved, PeriodSame, NotLive, TooEarly, TooLate, NoHigher}
 use Rattle.event_life.specs.Periods.{ends_after, same_end}
-use Rattle.event_life.specs.Table.{first_of, on_life, on_continuing, on_ending, continued_period, stays, prints_past, prints_later, prints_begin, moves_begin, cancels_late, expires_early, expires_late, breach_of_line, step}
+use Rattle.event_life.specs.Table.{first_of, on_life, on_continuing, on_ending, continued_period, stays, prints_past, prints_later, prints_begin_as_due, moves_begin, cancels_late, expires_early, expires_late, breach_of_line, step}
 use Rattle.event_life.proofs.Keys.{key_exact}
 use Rattle.event_life.proofs.Puts.{at_key}
 use Rattle.hazard_board.specs.Board.{openings}
@@ -115,7 +115,7 @@ continuing_live life line t last h = first_false life.ended (not (ends_after lif
 
 ending_live : (life : Life) (line : Line) (t : ℕ) (more : List (Bool × Breach)) → first_of (on_ending life line t more) ≡ None → life.ended ≡ false
 ending_live life line t more h = (none_first life.ended NotLive
-    ((not (prints_begin line.begin life.period.begin t), ZeroBegin) ∷ (moves_begin line.begin life.period.begin || not (same_end line.end life.period.end), PeriodMoved) ∷ more) h).0
+    ((not (prints_begin_as_due line.begin life.period.begin t), ZeroBegin) ∷ (moves_begin line.begin life.period.begin || not (same_end line.end life.period.end), PeriodMoved) ∷ more) h).0
 
 -- no line but an opening is lawful on an ended life
 goes_on_live : (a : Action) (life : Life) (line : Line) (t : ℕ) (around : Around) → is_routine a ≡ false → opens a ≡ false → first_of (on_life a life line t around) ≡ None → life.ended ≡ false

@@ -12,7 +12,7 @@ use Rattle.event_life.specs.Shown.{shown_at}
 use Rattle.event_life.proofs.Puts.{put-sorted}
 use Rattle.hazard_board.specs.Board.{slice_of}
 use Rattle.hazard_board.specs.ByZone.{lines_of}
-use Rattle.hazard_board.specs.NewClashes.{is_same, unless_same, clashes_among, clashes_if, left_clashes, left_if, left_by, lefts, put_lefts, clashes_newly}
+use Rattle.hazard_board.specs.NewClashes.{is_same, unless_same, clashes_among, clashes_if, left_clashes, left_if, left_by, lefts, put_lefts, is_new_clash}
 use Rattle.hazard_board.specs.Taken.{row_left, put_if, rows_taken}
 use Rattle.hazard_board.specs.declared.lines.Left.{Left}
 use Rattle.hazard_board.proofs.LiveLemmas.{alike_put}
@@ -49,24 +49,24 @@ module _ (rows : List Row) (t : ℕ) where
 
   -- those that clash anew
 
-  new_by : (b : Bool) (r : Row) (held : Option Row) (some : List Row) → is_same held r ≡ b → list_any (clashes_newly t some) (option_to_list (left_if held (Some r))) ≡ clashes_if t some (unless_same held (Some r))
+  new_by : (b : Bool) (r : Row) (held : Option Row) (some : List Row) → is_same held r ≡ b → list_any (is_new_clash t some) (option_to_list (left_if held (Some r))) ≡ clashes_if t some (unless_same held (Some r))
   new_by true r held some is = rw is refl
   new_by false r held some is = rw is (or_last (clashes_among t some r))
 
-  one_new : (held o : Option Row) (some : List Row) → list_any (clashes_newly t some) (option_to_list (left_if held o)) ≡ clashes_if t some (unless_same held o)
+  one_new : (held o : Option Row) (some : List Row) → list_any (is_new_clash t some) (option_to_list (left_if held o)) ≡ clashes_if t some (unless_same held o)
   one_new held None some = refl
   one_new held (Some r) some = new_by (is_same held r) r held some refl
 
-  lefts_new : (target : List Row) (some : List Left) (lines : List Line) → list_any (clashes_newly t target) (lefts_on some lines) ≡ (list_any (clashes_newly t target) some || list_any (left_clashes t rows target) lines)
-  lefts_new target some [] = sym (or_last (list_any (clashes_newly t target) some))
+  lefts_new : (target : List Row) (some : List Left) (lines : List Line) → list_any (is_new_clash t target) (lefts_on some lines) ≡ (list_any (is_new_clash t target) some || list_any (left_clashes t rows target) lines)
+  lefts_new target some [] = sym (or_last (list_any (is_new_clash t target) some))
   lefts_new target some (line ∷ lines) =
       lefts_new target (some ++ left_by rows t line) lines
       ∙ ap (λ (b : Bool). b || list_any (left_clashes t rows target) lines)
-      (list_any-append (clashes_newly t target) some (left_by rows t line)
-      ∙ ap (λ (b : Bool). list_any (clashes_newly t target) some || b) (one_new (row_at rows line.event line.zone) (row_left rows t line) target))
-      ∙ or_assoc (list_any (clashes_newly t target) some) (left_clashes t rows target line) (list_any (left_clashes t rows target) lines)
+      (list_any-append (is_new_clash t target) some (left_by rows t line)
+      ∙ ap (λ (b : Bool). list_any (is_new_clash t target) some || b) (one_new (row_at rows line.event line.zone) (row_left rows t line) target))
+      ∙ or_assoc (list_any (is_new_clash t target) some) (left_clashes t rows target line) (list_any (left_clashes t rows target) lines)
 
-  pub lefts_clash : (target : List Row) (lines : List Line) → list_any (clashes_newly t target) (lefts rows t lines) ≡ list_any (left_clashes t rows target) lines
+  pub lefts_clash : (target : List Row) (lines : List Line) → list_any (is_new_clash t target) (lefts rows t lines) ≡ list_any (left_clashes t rows target) lines
   lefts_clash target lines = lefts_new target [] lines
 
 -- rows of which the same are live stay so

@@ -17,11 +17,11 @@ use Rattle.event_life.specs.declared.life.Life.{Life}
 use Rattle.event_life.specs.Bounds.{IsBefore, IsLongBefore, IsNear, JoinsEvent, GoesOnFrom, Stays, EndsAsPrinted, IsOpened, IsCarriedOn, IsEnded}
 use Rattle.event_life.specs.Firsts.{is_lawful, first_line, row_by_first}
 use Rattle.event_life.specs.Lives.{opens, goes_on, ends}
-use Rattle.event_life.specs.Products.{by_key, row_at, life_of, row_of, row_after, is_open, is_held, is_new, is_routine, speaks_of, around_of, rows_after}
-use Rattle.event_life.specs.Table.{breach_of_line, life_after, unless_breach, step}
+use Rattle.event_life.specs.Products.{by_key, row_at, life_of, row_of, row_after, is_open, is_held, is_new, is_routine, concerns, around_of, rows_after}
+use Rattle.event_life.specs.Table.{breach_of_line, life_after_lawful_line, unless_breach, step}
 use Rattle.event_life.proofs.BoundsLemmas.{none_ok, new_exactly, exa_exactly, exb_exactly, con_exactly, cor_exactly, ext_exactly, can_exactly, exp_exactly, upg_exactly, opens_leaves, goes_on_leaves, ends_leaves}
 use Rattle.event_life.proofs.LivesLemmas.{none_from_test, find-passes}
-use Rattle.event_life.proofs.Puts.{at_key, at_key-parts, speaks_of-parts, rows_after-sorted}
+use Rattle.event_life.proofs.Puts.{at_key, at_key-parts, concerns-parts, rows_after-sorted}
 use Rattle.event_life.proofs.Spoken.{row_at-rows_after}
 use Rattle.hazard_board.specs.Consistent.{AreOfTheYear}
 use Rattle.hazard_board.proofs.Among.{IsAmong, found_among, found_at}
@@ -81,22 +81,22 @@ module _ (rows : List Row) (t : ℕ) (line : Line) (around : Around) where
   HasNone o = breach_of_line (option_map life_of o) line t around ≡ None
 
   abbrev RowLeft : Option Row → Row
-  RowLeft o = row_of line (life_after (option_map life_of o) line t)
+  RowLeft o = row_of line (life_after_lawful_line (option_map life_of o) line t)
 
   is_ok : (o : Option Row) → HasNone o → IsOk (step (option_map life_of o) line t around)
-  is_ok o h = none_ok (breach_of_line (option_map life_of o) line t around) (life_after (option_map life_of o) line t) h
+  is_ok o h = none_ok (breach_of_line (option_map life_of o) line t around) (life_after_lawful_line (option_map life_of o) line t) h
 
   opening : (o : Option Row) → opens line.action ≡ true → HasNone o → t ≤ unwrap_or line.begin t → IsBefore (unwrap_or line.begin t) line.end → IsFreeOrOpen rows t line.event → IsLeft rows t (RowLeft o)
   opening o a h begin length event =
-      let left : IsOpened line t (life_after (option_map life_of o) line t) =
-      ok_left (IsOpened line t) (breach_of_line (option_map life_of o) line t around) (life_after (option_map life_of o) line t) h (opens_leaves (option_map life_of o) line t around a) in
+      let left : IsOpened line t (life_after_lawful_line (option_map life_of o) line t) =
+      ok_left (IsOpened line t) (breach_of_line (option_map life_of o) line t around) (life_after_lawful_line (option_map life_of o) line t) h (opens_leaves (option_map life_of o) line t around a) in
       inl (record { going = left.going; begin = rw left.begin begin; length = rw (left.begin, left.end) length; event = event })
 
   carrying : (o : Option Row) → row_at rows line.event line.zone ≡ o → goes_on line.action ≡ true → HasNone o → IsSomeAnd (option_map life_of o) (λ life. GoesOnFrom life line t) → IsLeft rows t (RowLeft o)
   carrying None found a h g = absurd g
   carrying (Some q) found a h g =
-      let left : IsCarriedOn (life_of q) line t (life_after (Some (life_of q)) line t) =
-      ok_left (IsCarriedOn (life_of q) line t) (breach_of_line (Some (life_of q)) line t around) (life_after (Some (life_of q)) line t) h (goes_on_leaves (life_of q) line t around a) in
+      let left : IsCarriedOn (life_of q) line t (life_after_lawful_line (Some (life_of q)) line t) =
+      ok_left (IsCarriedOn (life_of q) line t) (breach_of_line (Some (life_of q)) line t around) (life_after_lawful_line (Some (life_of q)) line t) h (goes_on_leaves (life_of q) line t around a) in
       let parts = at_key-parts line.event line.zone q (find-passes (at_key line.event line.zone) rows q found) in
       inr (inl (
         q,
@@ -116,8 +116,8 @@ module _ (rows : List Row) (t : ℕ) (line : Line) (around : Around) where
   ending : (o : Option Row) → row_at rows line.event line.zone ≡ o → ends line.action ≡ true → HasNone o → IsSomeAnd (option_map life_of o) (λ life. EndsAsPrinted life line t) → IsLeft rows t (RowLeft o)
   ending None found a h g = absurd g
   ending (Some q) found a h g =
-      let left : IsEnded (life_of q) line (life_after (Some (life_of q)) line t) =
-      ok_left (IsEnded (life_of q) line) (breach_of_line (Some (life_of q)) line t around) (life_after (Some (life_of q)) line t) h (ends_leaves (life_of q) line t around a) in
+      let left : IsEnded (life_of q) line (life_after_lawful_line (Some (life_of q)) line t) =
+      ok_left (IsEnded (life_of q) line) (breach_of_line (Some (life_of q)) line t around) (life_after_lawful_line (Some (life_of q)) line t) h (ends_leaves (life_of q) line t around a) in
       let parts = at_key-parts line.event line.zone q (find-passes (at_key line.event line.zone) rows q found) in
       inr (inr (q, record { among = found_among (at_key line.event line.zone) rows q found; event = parts.0; zone = parts.1; ended = left.ended; period = left.period }))
 
@@ -162,13 +162,13 @@ of_line P p (l ∷ lines) line all h =
     step (p l) h
 
 module _ (rows : List Row) (t : ℕ) (lines : List Line) (years : AreOfTheYear lines t) where
-  by_line : (e : Event) (z : Place) (line : Line) (r : Row) → find (speaks_of e z) lines ≡ Some line → is_lawful rows t lines line ≡ true → row_after rows t line ≡ r → IsLeft rows t r
+  by_line : (e : Event) (z : Place) (line : Line) (r : Row) → find (concerns e z) lines ≡ Some line → is_lawful rows t lines line ≡ true → row_after rows t line ≡ r → IsLeft rows t r
   by_line e z line r found lawful is =
-      let parts = speaks_of-parts e z line (find-passes (speaks_of e z) lines line found) in
-      let year = of_line (λ (line : Line). is_new line.action ≡ true → line.event.year ≡ year_of t) (speaks_of e z) lines line years found in
+      let parts = concerns-parts e z line (find-passes (concerns e z) lines line found) in
+      let year = of_line (λ (line : Line). is_new line.action ≡ true → line.event.year ≡ year_of t) (concerns e z) lines line years found in
       subst (IsLeft rows t) is (left_by rows t line (around_of rows t lines line) line.action refl parts.0 (row_at rows line.event line.zone) refl (none_from_test _ lawful) refl refl year)
 
-  by_first : (e : Event) (z : Place) (r : Row) (first : Option Line) → find (speaks_of e z) lines ≡ first → row_by_first rows t lines (row_at rows e z) first ≡ Some r → IsAmong r rows ⊎ IsLeft rows t r
+  by_first : (e : Event) (z : Place) (r : Row) (first : Option Line) → find (concerns e z) lines ≡ first → row_by_first rows t lines (row_at rows e z) first ≡ Some r → IsAmong r rows ⊎ IsLeft rows t r
   by_first e z r None found is = inl (found_among (at_key e z) rows r is)
   by_first e z r (Some line) found is =
       let step : (b : Bool) → is_lawful rows t lines line ≡ b → cond b (Some (row_after rows t line)) (row_at rows e z) ≡ Some r → IsAmong r rows ⊎ IsLeft rows t r =

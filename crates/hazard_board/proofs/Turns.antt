@@ -15,7 +15,7 @@ use Rattle.event_life.specs.declared.life.Breach.{Breach}
 use Rattle.event_life.specs.declared.life.Breach.TheVariants.{Twice}
 use Rattle.event_life.specs.Lives.{opens}
 use Rattle.event_life.specs.Table.{breach_of_line}
-use Rattle.event_life.specs.Products.{by_key, placed, put, row_at, life_at, life_of, row_after, is_routine, speaks_of, is_second, around_of, breach_in, judged_from, lawful_of, put_all, rows_after}
+use Rattle.event_life.specs.Products.{by_key, placed, put, row_at, life_at, life_of, row_after, is_routine, concerns, is_second, around_of, breach_in, judged_from, lawful_of, put_all, rows_after}
 use Rattle.event_life.proofs.Puts.{at_key, at_key-parts, none_above, all_above, row_at-put, put-sorted}
 use Rattle.event_life.specs.Reordered.{are_lawful}
 use Rattle.event_life.proofs.Keys.{key_exact, key_ties}
@@ -117,7 +117,7 @@ openings_cons line lines = sum_by-cons (λ (l : Line). cond (opens l.action) 1 0
 -- Lines in turn. Those so far have changed no row but those of which they speak.
 module _ (rows : List Row) (t : ℕ) (all : List Line) where
   abbrev pub AreAsBefore : List Row → List Line → Type 0
-  AreAsBefore now earlier = (e : Event) (z : Place) → list_any (speaks_of e z) earlier ≡ false → row_at now e z ≡ row_at rows e z
+  AreAsBefore now earlier = (e : Event) (z : Place) → list_any (concerns e z) earlier ≡ false → row_at now e z ≡ row_at rows e z
 
   abbrev pub have_none : List Line → List Line → Bool
   have_none earlier lines = list_all (λ (l : Line × Option Breach). is_none l.1) (judged_from rows t all earlier lines)
@@ -130,11 +130,11 @@ module _ (rows : List Row) (t : ℕ) (all : List Line) where
   or_last true = refl
   or_last false = refl
 
-  unspoken : (e : Event) (z : Place) (earlier : List Line) (line : Line) → list_any (speaks_of e z) (earlier ++ line ∷ []) ≡ false →
-      (list_any (speaks_of e z) earlier ≡ false) × (speaks_of e z line ≡ false)
+  unspoken : (e : Event) (z : Place) (earlier : List Line) (line : Line) → list_any (concerns e z) (earlier ++ line ∷ []) ≡ false →
+      (list_any (concerns e z) earlier ≡ false) × (concerns e z line ≡ false)
   unspoken e z earlier line h =
-      let p = either_false (list_any (speaks_of e z) earlier) _ (sym (list_any-append (speaks_of e z) earlier (line ∷ [])) ∙ h) in
-      (p.0, sym (or_last (speaks_of e z line)) ∙ p.1)
+      let p = either_false (list_any (concerns e z) earlier) _ (sym (list_any-append (concerns e z) earlier (line ∷ [])) ∙ h) in
+      (p.0, sym (or_last (concerns e z line)) ∙ p.1)
 
   as_before_more : (now : List Row) (earlier : List Line) (line : Line) → is_routine line.action ≡ false → AreAsBefore now earlier → AreAsBefore (put (row_after rows t line) now) (earlier ++ line ∷ [])
   as_before_more now earlier line own before e z h =

@@ -70,5 +70,5 @@ abbrev pub put_lefts : List Row → List Left → List Row
 put_lefts rows some = fold (λ (after : List Row) (left : Left). put left.row after) rows some
 
 -- a row that is left is new or not as it was, and clashes with one of some
-abbrev pub clashes_newly : ℕ → List Row → Left → Bool
-clashes_newly t some left = left.is_new && clashes_among t some left.row
+abbrev pub is_new_clash : ℕ → List Row → Left → Bool
+is_new_clash t some left = left.is_new && clashes_among t some left.row

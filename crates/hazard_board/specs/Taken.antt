@@ -23,11 +23,11 @@ row_if line (Ok life) = Some (row_of line life)
 row_if line (Err breach) = None
 
 -- the row that the line leaves of a life; a routine line leaves none
-abbrev pub left_on : Option Life → ℕ → Line → Option Row
-left_on life t line = if is_routine line.action then None else row_if line (step life line t (wanted line.action))
+abbrev pub row_after_on_life : Option Life → ℕ → Line → Option Row
+row_after_on_life life t line = if is_routine line.action then None else row_if line (step life line t (wanted line.action))
 
 abbrev pub row_left : List Row → ℕ → Line → Option Row
-row_left rows t line = left_on (life_at rows line) t line
+row_left rows t line = row_after_on_life (life_at rows line) t line
 
 abbrev pub put_if : Option Row → List Row → List Row
 put_if None rows = rows

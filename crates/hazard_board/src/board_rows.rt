@@ -90,7 +90,7 @@ impl BoardRows {
     }
 
     /// Returns rows of a zone, by event, among which are all that are live at `t`.
-    pub fn live_slice(&self, z: &Zone, t: Minute) -> &[Row]
+    pub fn rows_in_zone_with_live(&self, z: &Zone, t: Minute) -> &[Row]
         ensures alike { shown_at t result.now ≡ shown_at t (slice_of z.now self.now.rows) }
         ensures order { IsStrictlySortedBy by_key result.now }
         ensures by_event { IsStrictlySortedBy by_row_event result.now }

@@ -10,12 +10,12 @@ ghost use Rattle.hazard_board.specs.Board.{slice_of};
 ghost use Rattle.hazard_board.specs.ByZone.{lines_of};
 ghost use Rattle.hazard_board.specs.Clashes.{clash, clash_of, first_clash, earlier_clash, may_clash};
 ghost use Rattle.hazard_board.specs.Consistent.{collide, EachToLater};
-ghost use Rattle.hazard_board.specs.NewClashes.{clash_either, clashes_among, clashes_newly};
+ghost use Rattle.hazard_board.specs.NewClashes.{clash_either, clashes_among, is_new_clash};
 ghost use Rattle.hazard_board.specs.Taken.{rows_taken};
 
 use crate::board_rows::BoardRows;
 use crate::by_zone::{lines_by_zone, lines_in};
-use crate::lines::{Left, lefts, rows_taken, zone_taken};
+use crate::lines::{Left, lefts, rows_taken, zone_rows_after_lines};
 use event_life::{is_live, overlaps};
 use hazard_types::desk_hazards::facts;
 use hazard_types::{Clash, Hazard, Line, Minute, Oom, Row, Zone};
@@ -130,17 +130,17 @@ fn clashes_among(t: Minute, some: &[Row], row: &Row) -> bool
 }
 
 /// Whether the row that is left is new or changed, and clashes with one of `some`.
-fn clashes_newly(t: Minute, some: &[Row], left: &Left) -> bool
-    ensures { result ≡ clashes_newly t some.now left.now }
+fn is_new_clash(t: Minute, some: &[Row], left: &Left) -> bool
+    ensures { result ≡ is_new_clash t some.now left.now }
 {
     left.is_new && clashes_among(t, some, &left.row)
 }
 
 /// Whether one of the rows that are left is new or changed, and clashes with one of `some`.
 fn has_new_clash(t: Minute, some: &[Row], lefts: &[Left]) -> bool
-    ensures { result ≡ list_any (clashes_newly t some.now) lefts.now }
+    ensures { result ≡ list_any (is_new_clash t some.now) lefts.now }
 {
-    lefts.iter().any(|left| clashes_newly(t, some, left))
+    lefts.iter().any(|left| is_new_clash(t, some, left))
 }
 
 /// Returns the clash in the earlier zone; `best` if both are in one.
@@ -181,7 +181,7 @@ fn clash_in(
         (λ found. found ≡ first_clash t (slice_of z.now (rows_taken rows.now.rows t lines.now))) }
 {
     let left = lefts(alloc, rows, own, t)?;
-    let after = zone_taken(alloc, rows, &left, t, z)?;
+    let after = zone_rows_after_lines(alloc, rows, &left, t, z)?;
     if !has_new_clash(t, &after, &left) {
         return Ok(None);
     }

@@ -132,12 +132,12 @@ impl Board {
 
     /// Returns rows of a zone, by event, among which are all that are live at `t`. They may be far
     /// fewer than those of `slice_of`, since most ended rows are left out.
-    pub fn live_slice(&self, z: Zone, t: Minute) -> &[Row]
+    pub fn rows_in_zone_with_live(&self, z: Zone, t: Minute) -> &[Row]
         ensures rows { shown_at t result.now ≡ live_in z t self.now.rows }
         ensures order { IsStrictlySortedBy by_row_event result.now }
         ensures all_in_order { IsStrictlySortedBy by_key self.now.rows }
     {
-        self.rows.live_slice(&z, t)
+        self.rows.rows_in_zone_with_live(&z, t)
     }
 
     /// Whether the event has a row, ended or not.
@@ -187,7 +187,7 @@ impl Board {
         ensures rows { IfOk result (λ live. live ≡ live_in z t self.now.rows) }
         ensures order { IfOk result (λ live. IsStrictlySortedBy by_row_event live) }
     {
-        Ok(List::from_vec(live(alloc, self.rows.live_slice(&z, t), t)?))
+        Ok(List::from_vec(live(alloc, self.rows.rows_in_zone_with_live(&z, t), t)?))
     }
 
     /// Returns all rows that are live at `t`, by zone, then event.

@@ -9,7 +9,7 @@ ghost use Rattle.hazard_board.specs.Board.{openings, slice_of};
 ghost use Rattle.hazard_board.specs.NewClashes.{is_same, stays, left_if, left_by, lefts, put_lefts};
 ghost use Rattle.hazard_board.specs.Periods.{AreCounted};
 ghost use Rattle.hazard_board.specs.Spots.{AreSpots};
-ghost use Rattle.hazard_board.specs.Taken.{wanted, left_on, row_left, put_if, rows_taken, taken_in_turn};
+ghost use Rattle.hazard_board.specs.Taken.{wanted, row_after_on_life, row_left, put_if, rows_taken, taken_in_turn};
 
 use crate::board_rows::BoardRows;
 use crate::periods::{PeriodCount, count_if};
@@ -48,8 +48,8 @@ fn life_of(row: &Option<Row>) -> Option<Life>
 
 /// Returns the row that a line leaves of a life, or `None` if the line is routine or the life does
 /// not allow it.
-fn left_on(life: Option<Life>, line: &Line, t: Minute) -> Option<Row>
-    ensures { result ≡ left_on life t line.now }
+fn row_after_on_life(life: Option<Life>, line: &Line, t: Minute) -> Option<Row>
+    ensures { result ≡ row_after_on_life life t line.now }
 {
     if is_routine(&line.action) {
         return None;
@@ -64,7 +64,7 @@ fn left_on(life: Option<Life>, line: &Line, t: Minute) -> Option<Row>
 pub fn row_left(rows: &BoardRows, line: &Line, t: Minute) -> Option<Row>
     ensures { result ≡ row_left rows.now.rows t line.now }
 {
-    left_on(life_of(&rows.row_at(&line.event, &line.zone)), line, t)
+    row_after_on_life(life_of(&rows.row_at(&line.event, &line.zone)), line, t)
 }
 
 /// Whether there was a row and it is equal to `row`.
@@ -126,7 +126,7 @@ fn add_left(lefts: &mut Vec<Left>, rows: &BoardRows, line: &Line, t: Minute) -> 
     ensures { OnOk result (lefts.new.items ≡ lefts.old.items ++ left_by rows.now.rows t line.now) }
 {
     let old = rows.row_at(&line.event, &line.zone);
-    let left = left_if(&old, left_on(life_of(&old), line, t));
+    let left = left_if(&old, row_after_on_life(life_of(&old), line, t));
     add_if(lefts, &left)
 }
 
@@ -193,7 +193,7 @@ fn bring_line(
     ensures counts { vec_capacity periods.old ≤ vec_capacity periods.new }
 {
     let old = rows.row_at(&line.event, &line.zone);
-    let row = left_on(life_of(&old), line, t);
+    let row = row_after_on_life(life_of(&old), line, t);
     if stays(&old, &row) {
         return;
     }
@@ -268,7 +268,7 @@ fn with_room(alloc: Global, rows: &[Row], more: usize) -> Result<Vec<Row>, Oom>
 
 /// Returns rows of a zone, by event, among which are all that are live at `t` after the rows of
 /// `left` are put.
-pub fn zone_taken(
+pub fn zone_rows_after_lines(
     alloc: Global,
     rows: &BoardRows,
     left: &[Left],
@@ -280,7 +280,7 @@ pub fn zone_taken(
         shown_at t after.items ≡ shown_at t (put_lefts (slice_of z.now rows.now.rows) left.now)) }
     ensures order { IfOk result (λ after. IsStrictlySortedBy by_key after.items) }
 {
-    let mut after = with_room(alloc, rows.live_slice(z, t), left.len())?;
+    let mut after = with_room(alloc, rows.rows_in_zone_with_live(z, t), left.len())?;
     for one in left {
         put(&mut after, &one.row)?;
     }

@@ -163,7 +163,7 @@ fn split_shelf(later: &mut Vec<Shelf>, place: usize, n: usize) -> Result<(), Oom
 }
 
 /// Takes memory for `n` more rows on each of the shelves, from the last on, and splits long ones.
-fn reserve_later(later: &mut Vec<Shelf>, n: usize) -> Result<(), Oom>
+fn reserve_shelves(later: &mut Vec<Shelf>, n: usize) -> Result<(), Oom>
     requires { IsStrictlySortedBy by_key (on_shelves later.old.items) }
     ensures kept { AreKept n later.old.items later.new.items }
     ensures ok { OnOk result (HaveRoom n later.new.items) }
@@ -208,7 +208,7 @@ fn reserve_each(first: &mut Vec<Row>, later: &mut Vec<Shelf>, n: usize) -> Resul
     ensures ok { OnOk result
         (n ≤ least_room (vec_capacity first.new - vec_len first.new) later.new.items) }
 {
-    reserve_later(later, n)?;
+    reserve_shelves(later, n)?;
     split_first_shelf(first, later, n)?;
     first.reserve(n)?;
     Ok(())

@@ -5,7 +5,7 @@ use Rattle.std.proofs.lemmas.Bool.Decides.{nat_tests}
 use Rattle.std.proofs.lemmas.Option.{cond_some}
 use Rattle.std.proofs.lemmas.Slice.Eq.{text_from_reads}
 use Rattle.hazard_types.specs.Calendar.{is_digit}
-use Rattle.hazard_types.specs.Digits.{two_digits, is_day_stamp, day_text, six_digits, day_stamp_at, day_stamp_in}
+use Rattle.hazard_types.specs.Digits.{two_digits, is_day_stamp, day_text, six_digits, day_stamp_at, parse_day_stamp}
 use Rattle.hazard_types.specs.declared.calendar.DayStamp.{DayStamp}
 
 digit_range : (c : ℕ) → is_digit c ≡ true → (48 ≤ c) × (c ≤ 57)
@@ -14,8 +14,8 @@ digit_range c h = let t = and_parts _ _ h in (leb-true _ _ t.0, leb-true _ _ t.1
 two_back : (x y : ℕ) → is_digit x ≡ true → is_digit y ≡ true → (x ≡ 48 + (10 * (x - 48) + (y - 48)) / 10) × (y ≡ 48 + (10 * (x - 48) + (y - 48)) % 10)
 two_back x y h g = let a = digit_range x h in let b = digit_range y g in (omega arith, omega arith)
 
-pub day_stamp_back : (text : List ℕ) (d : DayStamp) → day_stamp_in text ≡ Some d → IsTrue (is_day_stamp d) × (text ≡ day_text d)
-unfolding day_stamp_in
+pub day_stamp_back : (text : List ℕ) (d : DayStamp) → parse_day_stamp text ≡ Some d → IsTrue (is_day_stamp d) × (text ≡ day_text d)
+unfolding parse_day_stamp
 day_stamp_back text d h =
     let found = cond_some _ (day_stamp_at text) d h in
     let tests = and_parts _ _ found.0 in
@@ -38,8 +38,8 @@ two_read n = omega arith
 day_digits : (a b c : ℕ) → a ≤ 31 → b ≤ 23 → c ≤ 59 → six_digits (two_digits a ++ two_digits b ++ two_digits c) ≡ true
 day_digits a b c p q r = grind (arith, nat_tests)
 
-pub day_stamp_read : (d : DayStamp) → is_day_stamp d ≡ true → day_stamp_in (day_text d) ≡ Some d
-unfolding day_stamp_in
+pub day_stamp_read : (d : DayStamp) → is_day_stamp d ≡ true → parse_day_stamp (day_text d) ≡ Some d
+unfolding parse_day_stamp
 day_stamp_read d h =
     let t3 = and_parts _ _ h in
     let t2 = and_parts _ _ t3.0 in
@@ -52,5 +52,5 @@ day_stamp_read d h =
     let stamped : is_day_stamp (day_stamp_at (day_text d)) ≡ true = ap is_day_stamp same ∙ h in
     rw (digits, stamped) (ap (λ (x : DayStamp). Some x) same)
 
-pub day_stamp_is_read : (text : List ℕ) (d : DayStamp) → is_day_stamp d ≡ true → text ≡ day_text d → day_stamp_in text ≡ Some d
-day_stamp_is_read text d h e = ap day_stamp_in e ∙ day_stamp_read d h
+pub day_stamp_is_read : (text : List ℕ) (d : DayStamp) → is_day_stamp d ≡ true → text ≡ day_text d → parse_day_stamp text ≡ Some d
+day_stamp_is_read text d h e = ap parse_day_stamp e ∙ day_stamp_read d h

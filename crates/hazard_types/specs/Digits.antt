@@ -43,6 +43,6 @@ abbrev pub day_stamp_at : List ℕ → DayStamp
 day_stamp_at text = record { day = two_at text 0; hour = two_at text 2; minute = two_at text 4 }
 
 -- the day stamp of a text, if it is one
-unfoldable pub day_stamp_in : List ℕ → Option DayStamp
-day_stamp_in text =
+unfoldable pub parse_day_stamp : List ℕ → Option DayStamp
+parse_day_stamp text =
     if six_digits text && is_day_stamp (day_stamp_at text) then Some (day_stamp_at text) else None

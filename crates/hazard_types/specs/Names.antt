@@ -104,5 +104,5 @@ event_at bs = if (length bs == 14) && (slice_index bs 4 == 46) && (slice_index b
     else None
 
 -- a river flood: its phenomenon is FL
-abbrev pub is_flood : Hazard → Bool
-is_flood h = bytes_eq h.phen (codes "FL")
+abbrev pub is_fl_phenomenon : Hazard → Bool
+is_fl_phenomenon h = bytes_eq h.phen (codes "FL")

@@ -52,7 +52,7 @@ pub fn is_location(text: &[u8]) -> bool
 /// Returns the five characters of the code of a location, or `None` if the text is not one.
 ///
 /// Source: NWS Instruction 10-1703, H-VTEC location identifier.
-pub fn location_in(text: &[u8]) -> Option<[u8; 5]>
+pub fn parse_location(text: &[u8]) -> Option<[u8; 5]>
     ensures { result ≡ location_at text.now }
 {
     let [a, b, c, d, e] = text else {

@@ -2,7 +2,7 @@
 ghost use Rattle.std.specs.Prelude.{◌≡◌, ◌<◌, ◌≤◌, ◌+◌, ◌-◌, ◌*◌, ◌++◌, IsTrue, IfSome, Some, OnOk, decimal};
 ghost use Rattle.hazard_types.specs.Calendar.{is_digit};
 ghost use Rattle.hazard_types.specs.declared.calendar.DayStamp.{DayStamp as Stamp};
-ghost use Rattle.hazard_types.specs.Digits.{two_digits, three_digits, four_digits, wide, is_day_stamp, day_text, day_stamp_in};
+ghost use Rattle.hazard_types.specs.Digits.{two_digits, three_digits, four_digits, wide, is_day_stamp, day_text, parse_day_stamp};
 
 use crate::calendar::DayStamp;
 use crate::list::{Oom, Text};
@@ -59,7 +59,7 @@ pub fn put_number(alloc: Global, out: &mut Text, n: usize) -> Result<(), Oom>
 ///
 /// Out of memory.
 #[tactic(auto, unfolding(crate::specs::Digits::wide))]
-pub fn put_wide(alloc: Global, out: &mut Text, n: u16) -> Result<(), Oom>
+pub fn push_four_digits_or_more(alloc: Global, out: &mut Text, n: u16) -> Result<(), Oom>
     ensures { OnOk result (out.new ≡ out.old ++ wide n) }
 {
     if n < 10_000 {
@@ -98,9 +98,9 @@ pub(crate) fn two_of(tens: u8, ones: u8) -> u8
     10 * (tens - b'0') + (ones - b'0')
 }
 
-#[tactic(auto, unfolding(crate::specs::Digits::day_stamp_in))]
+#[tactic(auto, unfolding(crate::specs::Digits::parse_day_stamp))]
 fn day_stamp_of(text: &[u8]) -> Option<DayStamp>
-    ensures { result ≡ day_stamp_in text.now }
+    ensures { result ≡ parse_day_stamp text.now }
 {
     let [a, b, c, d, e, f] = text else {
         return None;
@@ -131,10 +131,10 @@ fn day_stamp_of(text: &[u8]) -> Option<DayStamp>
 ///
 /// Source: NWS Instruction 10-1702, UGC expiry; NWS Instruction 10-1701, WMO heading.
 #[tactic(auto, using(crate::proofs::DayTexts::day_stamp_back, crate::proofs::DayTexts::day_stamp_is_read))]
-pub fn day_stamp_in(text: &[u8]) -> Option<DayStamp>
+pub fn parse_day_stamp(text: &[u8]) -> Option<DayStamp>
     ensures found { IfSome result (λ d. IsTrue (is_day_stamp d) × (text.now ≡ day_text d)) }
     ensures only { (d : Stamp) → IsTrue (is_day_stamp d) → text.now ≡ day_text d → result ≡ Some d }
-    ensures value { result ≡ day_stamp_in text.now }
+    ensures value { result ≡ parse_day_stamp text.now }
 {
     day_stamp_of(text)
 }

@@ -117,7 +117,7 @@ impl Status {
 }
 
 /// Returns the significance with this letter, or `None` if no significance has it.
-pub fn significance_in(text: &[u8]) -> Option<Sig>
+pub fn parse_significance(text: &[u8]) -> Option<Sig>
     ensures { result ≡ value_beside sig_rows text.now }
 {
     find(&significances(), text)

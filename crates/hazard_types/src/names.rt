@@ -3,14 +3,14 @@ ghost use Rattle.std.specs.Prelude.{◌≡◌, ◌≤◌, ◌++◌, OnOk, IfSome
 ghost use Rattle.hazard_types.specs.Codes.{value_beside};
 ghost use Rattle.hazard_types.specs.Hazards.{hazard_code};
 ghost use Rattle.hazard_types.specs.Tables.{category_rows};
-ghost use Rattle.hazard_types.specs.Names.{category_code, sig_at, kind_code, kind_at, zone_text, zone_at, hazard_at, four_of, event_if, event_text, event_at, is_flood};
+ghost use Rattle.hazard_types.specs.Names.{category_code, sig_at, kind_code, kind_at, zone_text, zone_at, hazard_at, four_of, event_if, event_text, event_at, is_fl_phenomenon};
 ghost use Rattle.hazard_types.specs.Places.{Place, IsPlace, are_letters};
 ghost use Rattle.hazard_types.specs.declared.hazard.Hazard.{Hazard as AnyHazard};
 ghost use Rattle.hazard_types.specs.declared.hazard.Event.{Event as AnyEvent};
 
 use crate::code_tables::categories;
 use crate::codes::Category;
-use crate::digits::{four_digits, put_wide, three_digits};
+use crate::digits::{four_digits, push_four_digits_or_more, three_digits};
 use crate::hazard::{Event, Hazard, Phen, Sig};
 use crate::list::{Oom, Text};
 use crate::table::find;
@@ -87,7 +87,7 @@ impl Category {
 ///
 /// Source: NWS Instruction 10-1702, UGC.
 #[tactic(auto, unfolding(crate::specs::Names::zone_at))]
-pub fn zone_in(text: &[u8]) -> Option<Zone>
+pub fn parse_zone(text: &[u8]) -> Option<Zone>
     ensures { result ≡ zone_at text.now }
 {
     let [first, second, kind, hundreds, tens, ones] = text else {
@@ -181,7 +181,7 @@ fn event_if(hazard: Hazard, etn: u16, year: u16) -> Option<Event>
 ///
 /// Source: docs/REQUESTS.md, "The requests" (field `event`).
 #[tactic(auto, unfolding(crate::specs::Names::event_at))]
-pub fn event_in(text: &[u8]) -> Option<Event>
+pub fn parse_event(text: &[u8]) -> Option<Event>
     ensures { result ≡ event_at text.now }
 {
     let [a, b, c, d, b'.', n, o, p, q, b'.', w, x, y, z] = text else {
@@ -221,14 +221,14 @@ pub fn put_event(alloc: Global, out: &mut Text, event: &Event) -> Result<(), Oom
 {
     out.extend(&hazard_text(&event.hazard))?;
     out.push(b'.')?;
-    put_wide(alloc, out, event.etn)?;
+    push_four_digits_or_more(alloc, out, event.etn)?;
     out.push(b'.')?;
-    put_wide(alloc, out, event.year)
+    push_four_digits_or_more(alloc, out, event.year)
 }
 
 /// Whether the hazard is a river flood: its phenomenon is FL.
-pub fn is_flood(hazard: &Hazard) -> bool
-    ensures { result ≡ is_flood hazard.now }
+pub fn is_fl_phenomenon(hazard: &Hazard) -> bool
+    ensures { result ≡ is_fl_phenomenon hazard.now }
 {
     hazard.phen.letters() == *b"FL"
 }

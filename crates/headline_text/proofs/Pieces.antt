@@ -3,14 +3,14 @@ use Rattle.std.proofs.Common.{ℕ, ◌≡◌, ◌≢◌, ◌<◌, ◌≤◌, ◌
 use Rattle.std.proofs.lemmas.List.{drop-drop, drop_more, length-take-le}
 use Rattle.std.proofs.Math.Seq.{take-add}
 use Rattle.std.proofs.lemmas.Bool.Decides.{nat_tests}
-use Rattle.headline_text.specs.Wrapping.{fits_behind, part, column_behind, Follows}
+use Rattle.headline_text.specs.Wrapping.{fits_after, part, column_behind, Follows}
 use Rattle.headline_text.proofs.WholeWords.{behind_within, fill_within, some_column}
 
 -- what stands between two places
 abbrev pub between : List ℕ → ℕ → ℕ → List ℕ
 between text from to = take (to - from) (drop from text)
 
-fits : (column : ℕ) (word : List ℕ) → 0 < column → column + 1 + length word ≤ 66 → fits_behind column word ≡ true
+fits : (column : ℕ) (word : List ℕ) → 0 < column → column + 1 + length word ≤ 66 → fits_after column word ≡ true
 fits column word some low = grind (arith, nat_tests)
 
 part_by : (column c : ℕ) (cs : List ℕ) → 0 < column → column + 1 + length (c ∷ cs) ≤ 66 → part column (c ∷ cs) ≡ 32 ∷ c ∷ cs

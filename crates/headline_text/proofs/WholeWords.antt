@@ -4,7 +4,7 @@ use Rattle.std.specs.List.{All, AllByRecursion}
 use Rattle.std.proofs.lemmas.Bool.{cases_Bool}
 use Rattle.std.proofs.lemmas.Bool.Decides.{nat_tests}
 use Rattle.std.proofs.lemmas.List.Elements.{recursion_from_All}
-use Rattle.headline_text.specs.Wrapping.{with_word, words_from, words, fits_behind, fill, behind, part, column_behind, lay, wrapped}
+use Rattle.headline_text.specs.Wrapping.{with_word, words_from, words, fits_after, fill, behind, part, column_behind, lay, wrapped}
 use Rattle.headline_text.specs.Lines.{lines_from, lines, is_one_line, IsFullBefore, EndWhereFull}
 use Rattle.headline_text.proofs.WrapLaws.{AreWordBytes, IsWord, words_ok}
 use Rattle.headline_text.proofs.NameLaws.{goes_on}
@@ -60,10 +60,10 @@ behind_within (c ∷ cs) column h =
 pub some_column : (column : ℕ) → 0 < column → (column == 0) ≡ false
 some_column column h = grind (arith, nat_tests)
 
-within_line : (column : ℕ) (word : List ℕ) → length word ≤ 64 → fits_behind column word ≡ true → column + 1 + length word ≤ 66
+within_line : (column : ℕ) (word : List ℕ) → length word ≤ 64 → fits_after column word ≡ true → column + 1 + length word ≤ 66
 within_line column word short fits = grind (arith, nat_tests)
 
-past_line : (column : ℕ) (word : List ℕ) → length word ≤ 64 → fits_behind column word ≡ false → 66 < column + 1 + length word
+past_line : (column : ℕ) (word : List ℕ) → length word ≤ 64 → fits_after column word ≡ false → 66 < column + 1 + length word
 past_line column word short full = grind (arith, nat_tests)
 
 first_laid : (c : ℕ) (cs : List ℕ) (ws : List (List ℕ)) → length (c ∷ cs) ≤ 64 → lay 0 ((c ∷ cs) ∷ ws) ≡ (c ∷ cs) ++ lay (length (c ∷ cs)) ws
@@ -75,7 +75,7 @@ first_laid c cs ws short =
     let none : 0 + length w ≡ length w = omega arith in
     ap (λ (xs : List ℕ). xs ++ lay (column_behind 0 w) ws) filled ∙ ap (λ (n : ℕ). w ++ lay n ws) (next ∙ none)
 
-laid_behind : (column c : ℕ) (cs : List ℕ) (ws : List (List ℕ)) → 0 < column → length (c ∷ cs) ≤ 64 → fits_behind column (c ∷ cs) ≡ true → lay column ((c ∷ cs) ∷ ws) ≡ (32 ∷ c ∷ cs) ++ lay (column + 1 + length (c ∷ cs)) ws
+laid_behind : (column c : ℕ) (cs : List ℕ) (ws : List (List ℕ)) → 0 < column → length (c ∷ cs) ≤ 64 → fits_after column (c ∷ cs) ≡ true → lay column ((c ∷ cs) ∷ ws) ≡ (32 ∷ c ∷ cs) ++ lay (column + 1 + length (c ∷ cs)) ws
 laid_behind column c cs ws begun short fits =
     let w = c ∷ cs in
     let some = some_column column begun in
@@ -84,7 +84,7 @@ laid_behind column c cs ws begun short fits =
     let next : column_behind column w ≡ column + 1 + length w = rw (some, fits) (behind_within w (column + 1) low) in
     ap (λ (xs : List ℕ). xs ++ lay (column_behind column w) ws) filled ∙ ap (λ (n : ℕ). (32 ∷ w) ++ lay n ws) next
 
-laid_below : (column c : ℕ) (cs : List ℕ) (ws : List (List ℕ)) → 0 < column → length (c ∷ cs) ≤ 64 → fits_behind column (c ∷ cs) ≡ false → lay column ((c ∷ cs) ∷ ws) ≡ 10 ∷ ((32 ∷ 32 ∷ c ∷ cs) ++ lay (2 + length (c ∷ cs)) ws)
+laid_below : (column c : ℕ) (cs : List ℕ) (ws : List (List ℕ)) → 0 < column → length (c ∷ cs) ≤ 64 → fits_after column (c ∷ cs) ≡ false → lay column ((c ∷ cs) ∷ ws) ≡ 10 ∷ ((32 ∷ 32 ∷ c ∷ cs) ++ lay (2 + length (c ∷ cs)) ws)
 laid_below column c cs ws begun short full =
     let w = c ∷ cs in
     let some = some_column column begun in
@@ -115,7 +115,7 @@ laid ([] ∷ ws) line column h short is begun = absurd (h.0.some refl)
 laid ((c ∷ cs) ∷ ws) line column h short is begun =
     let w = c ∷ cs in
     let one = unbroken w h.0.bytes in
-    elim (cases_Bool (fits_behind column w)) [
+    elim (cases_Bool (fits_after column w)) [
       | inl fits ↦
           let next = column + 1 + length w in
           let line' = line ++ 32 ∷ w in

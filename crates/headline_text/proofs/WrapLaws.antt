@@ -5,7 +5,7 @@ use Rattle.std.proofs.lemmas.Bool.{cases_Bool}
 use Rattle.std.proofs.lemmas.Bool.Decides.{nat_tests}
 use Rattle.std.proofs.lemmas.List.Folds.{list_any-append, list_all-append}
 use Rattle.std.proofs.lemmas.List.Elements.{All-from_recursion, filter-append}
-use Rattle.headline_text.specs.Wrapping.{with_word, words_from, words, next_line, fits_behind, lead, start, fill, behind, part, column_behind, lay, wrapped}
+use Rattle.headline_text.specs.Wrapping.{with_word, words_from, words, next_line, fits_after, lead, start, fill, behind, part, column_behind, lay, wrapped}
 use Rattle.headline_text.specs.Lines.{lines_from, lines, has_word, is_one_line, without_blanks}
 
 pub both : (a b : Bool) → (a && b) ≡ true → (a ≡ true) × (b ≡ true)
@@ -65,7 +65,7 @@ words_whole (c ∷ cs) word line =
     ]
 
 lead_is_blank : (column : ℕ) (word : List ℕ) → without_blanks (lead column word) ≡ []
-lead_is_blank column word = by (column == 0) (fits_behind column word)
+lead_is_blank column word = by (column == 0) (fits_after column word)
   where
     by : (first fits : Bool) → without_blanks (cond first [] (cond fits (32 ∷ []) next_line)) ≡ []
     by true fits = refl
@@ -148,7 +148,7 @@ some_column : (line : List ℕ) (column : ℕ) → has_word line ≡ true → le
 some_column [] column h is = absurd (cc)
 some_column (c ∷ cs) column h is = grind (arith, nat_tests)
 
-room_behind : (column : ℕ) (word : List ℕ) → fits_behind column word ≡ true → column < 66
+room_behind : (column : ℕ) (word : List ℕ) → fits_after column word ≡ true → column < 66
 room_behind column word h = grind (arith, nat_tests)
 
 lay_fine : (ws : List (List ℕ)) (later : Bool) (line : List ℕ) (column : ℕ) → AllByRecursion IsWord ws → Fine later line → length line ≡ column → AreFine later (lines_from line (lay column ws))
@@ -158,7 +158,7 @@ lay_fine ((c ∷ cs) ∷ ws) later line column h f is =
     let w = c ∷ cs in
     let going : Rest (lay (column_behind column w) ws) (column_behind column w) = λ later' line' f' is'. lay_fine ws later' line' (column_behind column w) h.1 f' is' in
     let begun : (column == 0) ≡ false = some_column line column f.filled is in
-    elim (cases_Bool (fits_behind column w)) [
+    elim (cases_Bool (fits_after column w)) [
       | inl fits ↦
           let lt : length line < 66 = omega (arith, room_behind column w fits, is) in
           let long : length (line ++ 32 ∷ []) ≡ column + 1 = omega (arith, length-append line (32 ∷ []), is) in
@@ -297,7 +297,7 @@ module _ (p : ℕ → Bool) (blank : p 32 ≡ true) (break : p 10 ≡ true) wher
   part_passes : (column : ℕ) (word : List ℕ) → Pass word → Pass (part column word)
   part_passes column [] h = refl
   part_passes column (c ∷ cs) h =
-      joined (lead column (c ∷ cs)) (fill (start column (c ∷ cs)) (c ∷ cs)) (lead_passes (column == 0) (fits_behind column (c ∷ cs))) (fill_passes (c ∷ cs) (start column (c ∷ cs)) h)
+      joined (lead column (c ∷ cs)) (fill (start column (c ∷ cs)) (c ∷ cs)) (lead_passes (column == 0) (fits_after column (c ∷ cs))) (fill_passes (c ∷ cs) (start column (c ∷ cs)) h)
 
   lay_passes : (ws : List (List ℕ)) (column : ℕ) → AllByRecursion Pass ws → Pass (lay column ws)
   lay_passes [] column h = refl

@@ -72,8 +72,8 @@ unfoldable pub when_of : SegLine → LocalZone → ℕ → List ℕ
 when_of l z t = if has_when l.action then codes "* WHEN..." ++ capital (period_of z t l.begin l.end) ++ codes "." else []
 
 -- the words of a line's period, which its headline and its WHEN bullet say
-abbrev pub said_period : SegLine → LocalZone → ℕ → List ℕ
-said_period l z t = if has_when l.action then period_of z t l.begin l.end else []
+abbrev pub line_period_text : SegLine → LocalZone → ℕ → List ℕ
+line_period_text l z t = if has_when l.action then period_of z t l.begin l.end else []
 
 -- the WHEN bullet with the words of its period
 abbrev pub when_with : Action → List ℕ → List ℕ

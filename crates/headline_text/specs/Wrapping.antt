@@ -24,16 +24,16 @@ abbrev pub room : List ℕ → ℕ
 room word = if nat_le (length word) 64 then length word else 1
 
 -- it fits behind the word before it and one blank
-abbrev pub fits_behind : ℕ → List ℕ → Bool
-fits_behind column word = nat_le (column + 1 + room word) 66
+abbrev pub fits_after : ℕ → List ℕ → Bool
+fits_after column word = nat_le (column + 1 + room word) 66
 
 -- what stands before a word at a column: nothing at the beginning, one blank where it fits behind, else the beginning of the next line
 abbrev pub lead : ℕ → List ℕ → List ℕ
-lead column word = if column == 0 then [] else (if fits_behind column word then 32 ∷ [] else next_line)
+lead column word = if column == 0 then [] else (if fits_after column word then 32 ∷ [] else next_line)
 
 -- the column at which it begins
 abbrev pub start : ℕ → List ℕ → ℕ
-start column word = if column == 0 then 0 else (if fits_behind column word then column + 1 else 2)
+start column word = if column == 0 then 0 else (if fits_after column word then column + 1 else 2)
 
 -- characters from a column on, which go on on the next line where the line is full
 abbrev pub fill : ℕ → List ℕ → List ℕ

@@ -2,7 +2,7 @@
 ghost use Rattle.std.specs.Prelude.{◌≡◌, ◌++◌, codes, IsSome, IsTrue, IfOk, OnOk};
 ghost use Rattle.hazard_types.specs.Hazards.{name_of};
 ghost use Rattle.headline_text.specs.Wrapping.{wrapped};
-ghost use Rattle.headline_text.specs.Headlines.{name_text, stated, told, expiry_of, headline_of, is_minute, capital, has_when, when_of, said_period, when_with};
+ghost use Rattle.headline_text.specs.Headlines.{name_text, stated, told, expiry_of, headline_of, is_minute, capital, has_when, when_of, line_period_text, when_with};
 
 use crate::periods::{PERIOD_ROOM, empty_text, period_text};
 use crate::wrapping::wrapped;
@@ -81,8 +81,8 @@ fn has_when(action: Action) -> bool
 
 /// Returns the words of a line's period, which its headline and its WHEN bullet share. Empty for
 /// CAN, EXP, UPG and ROU.
-fn said_period(alloc: Global, l: &SegLine, zone: LocalZone, t: Minute) -> Result<Text, Oom>
-    ensures { IfOk result (λ text. text ≡ said_period l.now zone t) }
+fn line_period_text(alloc: Global, l: &SegLine, zone: LocalZone, t: Minute) -> Result<Text, Oom>
+    ensures { IfOk result (λ text. text ≡ line_period_text l.now zone t) }
 {
     if has_when(l.action) {
         period_text(alloc, zone, t, &l.begin, &l.end)
@@ -101,7 +101,7 @@ fn headline_with(
     period: &Text,
 ) -> Result<Text, Oom>
     requires named { IsSome (name_of l.now.event.hazard) }
-    requires period { period.now ≡ said_period l.now zone t }
+    requires period { period.now ≡ line_period_text l.now zone t }
     ensures { IfOk result (λ text. text ≡ headline_of l.now zone t) }
 {
     let name = name_text(l.event.hazard);
@@ -132,7 +132,7 @@ pub fn headline(alloc: Global, l: &SegLine, zone: LocalZone, t: Minute) -> Resul
     requires expiry { l.now.action ≡ Action.Exp → IsTrue (is_minute l.now.end) }
     ensures { IfOk result (λ text. text ≡ wrapped (headline_of l.now zone t)) }
 {
-    let period = said_period(alloc, l, zone, t)?;
+    let period = line_period_text(alloc, l, zone, t)?;
     let text = headline_with(alloc, l, zone, t, &period)?;
     wrapped(alloc, text.as_slice())
 }
@@ -177,7 +177,7 @@ fn when_with(alloc: Global, l: &SegLine, period: &Text) -> Result<Text, Oom>
 pub fn when_bullet(alloc: Global, l: &SegLine, zone: LocalZone, t: Minute) -> Result<Text, Oom>
     ensures { IfOk result (λ text. text ≡ wrapped (when_of l.now zone t)) }
 {
-    let period = said_period(alloc, l, zone, t)?;
+    let period = line_period_text(alloc, l, zone, t)?;
     let text = when_with(alloc, l, &period)?;
     wrapped(alloc, text.as_slice())
 }
@@ -200,7 +200,7 @@ pub fn line_texts(alloc: Global, l: &SegLine, zone: LocalZone, t: Minute) -> Res
     ensures headline { IfOk result (λ texts. texts.headline ≡ wrapped (headline_of l.now zone t)) }
     ensures when { IfOk result (λ texts. texts.when ≡ wrapped (when_of l.now zone t)) }
 {
-    let period = said_period(alloc, l, zone, t)?;
+    let period = line_period_text(alloc, l, zone, t)?;
     let bare_headline = headline_with(alloc, l, zone, t, &period)?;
     let bare_when = when_with(alloc, l, &period)?;
     let headline = wrapped(alloc, bare_headline.as_slice())?;

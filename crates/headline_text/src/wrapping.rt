@@ -1,6 +1,6 @@
 //! Wraps texts.
 ghost use Rattle.std.specs.Prelude.{◌≡◌, ◌≤◌, ◌<◌, [], ◌∷◌, ◌++◌, length, true, OnOk, IfOk};
-ghost use Rattle.headline_text.specs.Wrapping.{room, fits_behind, lead, start, fill, behind, part, column_behind, wrapped, Follows};
+ghost use Rattle.headline_text.specs.Wrapping.{room, fits_after, lead, start, fill, behind, part, column_behind, wrapped, Follows};
 
 use hazard_types::{Oom, Text};
 use std::alloc::Global;
@@ -16,9 +16,9 @@ const NEXT_LINE: &[u8] = b"\n  ";
 
 /// Whether a word fits on the line after one blank. A word that may be cut fits if one character
 /// does.
-fn fits_behind(column: usize, word: &[u8]) -> bool
+fn fits_after(column: usize, word: &[u8]) -> bool
     requires { column ≤ 66 }
-    ensures { result ≡ fits_behind column word.now }
+    ensures { result ≡ fits_after column word.now }
 {
     let room = if word.len() <= WHOLE { word.len() } else { 1 };
     column + 1 + room <= WIDTH
@@ -35,7 +35,7 @@ fn begin(out: &mut Text, column: usize, word: &[u8]) -> Result<usize, Oom>
     if column == 0 {
         return Ok(0);
     }
-    if fits_behind(column, word) {
+    if fits_after(column, word) {
         out.push(b' ')?;
         Ok(column + 1)
     } else {

@@ -4,7 +4,7 @@ ghost use Rattle.hazard_types.specs.declared.line.Flood.{Flood as Values};
 ghost use Rattle.hvtec_string.specs.Columns.{separators, has_columns, cause_at, values, hvtec_of, IsHvtec};
 
 use crate::columns::{BEGIN, CAUSE, CREST, END, LENGTH, LOCATION, SEVERITY, STATUS};
-use hazard_types::{Cause, Flood, Minute, Severity, Status, location_in, time_in};
+use hazard_types::{Cause, Flood, Minute, Severity, Status, parse_location, time_in};
 
 /// Returns the immediate cause, or `None` if a character is not A-Z.
 fn cause_of(text: &[u8]) -> Option<Cause>
@@ -60,7 +60,7 @@ fn values_of(bytes: &[u8]) -> Option<Flood>
         return None;
     }
     values(
-        location_in(&bytes[LOCATION]),
+        parse_location(&bytes[LOCATION]),
         Severity::from_code(&bytes[SEVERITY..SEVERITY + 1]),
         cause_of(&bytes[CAUSE]),
         time_in(&bytes[BEGIN]),

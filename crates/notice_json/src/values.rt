@@ -3,7 +3,7 @@ ghost use Rattle.std.specs.Prelude.{◌≡◌, option_map, IfOk};
 ghost use Rattle.serde_json.specs.View.{view, items_view};
 ghost use Rattle.notice_json.specs.Values.{text_at, minute_at, number_of, zones_of, zones_at};
 
-use hazard_types::{List, Minute, Oom, Zone, read_stamp, zone_in};
+use hazard_types::{List, Minute, Oom, Zone, parse_zone, read_stamp};
 use serde_json::Value;
 use std::alloc::Global;
 
@@ -44,7 +44,7 @@ fn zones_of(alloc: Global, values: &[Value]) -> Result<Option<List<Zone>>, Oom>
 {
     let mut zones = List::new(alloc);
     for value in values {
-        match value.as_str().and_then(|text| zone_in(text.as_bytes())) {
+        match value.as_str().and_then(|text| parse_zone(text.as_bytes())) {
             Some(zone) => zones.push(zone)?,
             None => return Ok(None),
         }

@@ -29,7 +29,7 @@ use Rattle.desk_settings.specs.declared.settings.Settings.{Settings}
 use Rattle.event_life.specs.declared.life.Life.{Life}
 use Rattle.event_life.specs.Products.{by_key, life_of, row_after, row_at, rows_after}
 use Rattle.event_life.specs.Reordered.{are_lawful}
-use Rattle.event_life.specs.Table.{flood_after, left_of_life, life_after}
+use Rattle.event_life.specs.Table.{flood_after, life_after_line, life_after_lawful_line}
 use Rattle.event_life.proofs.LawfulLemmas.{touches}
 use Rattle.event_life.proofs.Puts.{at_key, rows_after-sorted}
 use Rattle.event_numbers.specs.declared.Count.{Count}
@@ -97,7 +97,7 @@ flood_passes None new was own = own
 flood_passes (Some old) None was own = was
 flood_passes (Some old) (Some new) was own = own
 
-left_passes : (a : Action) (life : Life) (line : Line) (t : ℕ) → passes has_location life.flood ≡ true → passes has_location line.flood ≡ true → passes has_location (left_of_life a life line t).flood ≡ true
+left_passes : (a : Action) (life : Life) (line : Line) (t : ℕ) → passes has_location life.flood ≡ true → passes has_location line.flood ≡ true → passes has_location (life_after_line a life line t).flood ≡ true
 left_passes Con life line t was own = flood_passes life.flood line.flood was own
 left_passes Cor life line t was own = flood_passes life.flood line.flood was own
 left_passes Ext life line t was own = flood_passes life.flood line.flood was own
@@ -106,8 +106,8 @@ left_passes Exp life line t was own = flood_passes life.flood line.flood was own
 left_passes Upg life line t was own = flood_passes life.flood line.flood was own
 left_passes _ life line t was own = own
 
-life_passes : (o : Option Row) (line : Line) (t : ℕ) → ((row : Row) → o ≡ Some row → passes has_location row.flood ≡ true) → passes has_location line.flood ≡ true → passes has_location (life_after (option_map life_of o) line t).flood ≡ true
-unfolding life_after
+life_passes : (o : Option Row) (line : Line) (t : ℕ) → ((row : Row) → o ≡ Some row → passes has_location row.flood ≡ true) → passes has_location line.flood ≡ true → passes has_location (life_after_lawful_line (option_map life_of o) line t).flood ≡ true
+unfolding life_after_lawful_line
 life_passes None line t was own = own
 life_passes (Some row) line t was own = left_passes line.action (life_of row) line t (was row refl) own
 

@@ -74,18 +74,18 @@ abbrev pub found_draft : State → Option ℕ → Option Draft
 found_draft s None = None
 found_draft s (Some id) = draft_at s id
 
-abbrev pub is_others : List ℕ → Draft → Bool
-is_others desk d = not (bytes_eq d.owner desk)
+abbrev pub is_of_other_desk : List ℕ → Draft → Bool
+is_of_other_desk desk d = not (bytes_eq d.owner desk)
 
 -- NotOwner: another desk owns it; a take is not asked
 abbrev pub not_owner : List ℕ → Request → Option Draft → Option Refusal
 not_owner desk r None = None
-not_owner desk r (Some d) = if is_others desk d && not (takes r) then Some (refusal.NotOwner d.owner) else None
+not_owner desk r (Some d) = if is_of_other_desk desk d && not (takes r) then Some (refusal.NotOwner d.owner) else None
 
 -- StillActive: a take by another desk, before ten minutes behind the last touch
 abbrev pub still_active : List ℕ → ℕ → Request → Option Draft → Option Refusal
 still_active desk t r None = None
-still_active desk t r (Some d) = if is_others desk d && takes r && nat_lt t (d.touched + 10) then Some (refusal.StillActive (d.touched + 10)) else None
+still_active desk t r (Some d) = if is_of_other_desk desk d && takes r && nat_lt t (d.touched + 10) then Some (refusal.StillActive (d.touched + 10)) else None
 
 -- DraftsFull: a draft is opened while there are 64
 abbrev pub drafts_full : State → Request → Option Refusal

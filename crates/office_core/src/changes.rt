@@ -6,7 +6,7 @@ ghost use Rattle.office_core.specs.State.{is_draft};
 ghost use Rattle.office_core.specs.declared.prepared.DraftChange.TheVariants.{Open};
 ghost use Rattle.office_core.specs.Step.{drafts_after, taken_by, with_draft, with_intent, without_draft, without_intent};
 
-use crate::copies::{copied_event, copied_intents, copied_put, copied_routine};
+use crate::copies::{clone_put, copied_event, copied_intents, copied_routine};
 use crate::office::Office;
 use crate::prepared::DraftChange;
 use hazard_types::{Category, List, Minute, Oom};
@@ -174,7 +174,7 @@ impl Office {
         let drafts = self.drafts.as_slice();
         match r {
             Request::Begin(category) => Ok(opened_draft(alloc, self.begun + 1, desk, *category, t)),
-            Request::Put(id, part) => put_in(alloc, drafts, *id, t, Intent::Put(copied_put(part)?)),
+            Request::Put(id, part) => put_in(alloc, drafts, *id, t, Intent::Put(clone_put(part)?)),
             Request::Finish(id, part) => {
                 put_in(alloc, drafts, *id, t, Intent::Finish(copied_event(part)?))
             }

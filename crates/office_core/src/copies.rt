@@ -5,7 +5,7 @@ use hazard_types::{List, Oom};
 use office_types::{EventPart, Intent, PutPart, Request, RoutinePart};
 use std::alloc::Global;
 
-pub(crate) fn copied_put(part: &PutPart) -> Result<PutPart, Oom>
+pub(crate) fn clone_put(part: &PutPart) -> Result<PutPart, Oom>
     ensures { IfOk result (λ copy. copy ≡ part.now) }
 {
     Ok(part.clone()?)
@@ -27,7 +27,7 @@ pub(crate) fn copied_intent(intent: &Intent) -> Result<Intent, Oom>
     ensures { IfOk result (λ copy. copy ≡ intent.now) }
 {
     match intent {
-        Intent::Put(part) => Ok(Intent::Put(copied_put(part)?)),
+        Intent::Put(part) => Ok(Intent::Put(clone_put(part)?)),
         Intent::Finish(part) => Ok(Intent::Finish(copied_event(part)?)),
         Intent::Restate(part) => Ok(Intent::Restate(copied_event(part)?)),
         Intent::Routine(part) => Ok(Intent::Routine(copied_routine(part)?)),
@@ -48,9 +48,9 @@ pub(crate) fn copied_request(r: &Request) -> Result<Request, Oom>
     ensures { IfOk result (λ copy. copy ≡ r.now) }
 {
     match r {
-        Request::Issue(part) => Ok(Request::Issue(copied_put(part)?)),
+        Request::Issue(part) => Ok(Request::Issue(clone_put(part)?)),
         Request::Begin(category) => Ok(Request::Begin(*category)),
-        Request::Put(id, part) => Ok(Request::Put(*id, copied_put(part)?)),
+        Request::Put(id, part) => Ok(Request::Put(*id, clone_put(part)?)),
         Request::Finish(id, part) => Ok(Request::Finish(*id, copied_event(part)?)),
         Request::Restate(id, part) => Ok(Request::Restate(*id, copied_event(part)?)),
         Request::Routine(id, part) => Ok(Request::Routine(*id, copied_routine(part)?)),

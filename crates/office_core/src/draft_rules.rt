@@ -2,7 +2,7 @@
 ghost use Rattle.std.specs.Prelude.{◌≡◌, ◌≤◌, ◌+◌, ◌&&◌, if◌then◌else◌, IfSome, None, Some, find, is_some, length, nat_le, nat_lt, option_map};
 ghost use Rattle.office_types.specs.declared.refusal.Refusal.TheVariants as Refused;
 ghost use Rattle.office_core.specs.Requests.{draft_of, intent_of, takes};
-ghost use Rattle.office_core.specs.Rules.{no_draft, found_draft, is_others, not_owner, still_active, drafts_full, intents_full, no_intent, broken_draft};
+ghost use Rattle.office_core.specs.Rules.{no_draft, found_draft, is_of_other_desk, not_owner, still_active, drafts_full, intents_full, no_intent, broken_draft};
 ghost use Rattle.office_core.specs.State.{draft_at, is_draft};
 
 use crate::office::{MOST_DRAFTS, Office};
@@ -67,8 +67,8 @@ fn draft_at(drafts: &[Draft], id: u32) -> Option<&Draft>
 }
 
 /// Whether the draft is another desk's.
-fn is_others(desk: &Desk, draft: &Draft) -> bool
-    ensures { result ≡ is_others desk.now draft.now }
+fn is_of_other_desk(desk: &Desk, draft: &Draft) -> bool
+    ensures { result ≡ is_of_other_desk desk.now draft.now }
 {
     draft.owner.bytes() != desk.bytes()
 }
@@ -79,7 +79,7 @@ fn not_owner(desk: &Desk, r: &Request, found: Option<&Draft>) -> Option<Refusal>
 {
     match found {
         Some(draft) => {
-            if is_others(desk, draft) && !takes(r) {
+            if is_of_other_desk(desk, draft) && !takes(r) {
                 Some(Refusal::NotOwner { owner: draft.owner })
             } else {
                 None
@@ -92,9 +92,9 @@ fn not_owner(desk: &Desk, r: &Request, found: Option<&Draft>) -> Option<Refusal>
 /// Whether the request takes a draft that another desk touched less than ten minutes ago.
 fn comes_early(desk: &Desk, t: Minute, r: &Request, draft: &Draft) -> bool
     ensures { result
-        ≡ (is_others desk.now draft.now && takes r.now && nat_lt t (draft.now.touched + 10)) }
+        ≡ (is_of_other_desk desk.now draft.now && takes r.now && nat_lt t (draft.now.touched + 10)) }
 {
-    is_others(desk, draft) && takes(r) && t.get() < draft.touched.get() + ACTIVE
+    is_of_other_desk(desk, draft) && takes(r) && t.get() < draft.touched.get() + ACTIVE
 }
 
 /// The minute from which on any desk may take a draft.

@@ -14,7 +14,7 @@ ghost use Rattle.office_core.specs.Sound.{IsSoundMaking};
 ghost use Rattle.office_core.specs.Step.{BreaksOnLines};
 ghost use Rattle.office_core.specs.WellMade.{IsWellMade, IsWellMadeIf, made_with};
 
-use crate::copies::copied_put;
+use crate::copies::clone_put;
 use crate::made::Made;
 use crate::office::Office;
 use crate::replies::find_draft;
@@ -53,7 +53,7 @@ fn issued(alloc: Global, desk: &Desk, part: &PutPart, t: Minute) -> Result<Draft
     ensures { IfOk result (λ draft. drafted_by (Some draft) ≡ issued part.now) }
 {
     let mut intents = List::new(alloc);
-    intents.push(Intent::Put(copied_put(part)?))?;
+    intents.push(Intent::Put(clone_put(part)?))?;
     Ok(Draft {
         id: 0,
         owner: *desk,

@@ -105,13 +105,13 @@ impl<D: Disk> KeptOffice<D> {
             (λ change. (pending ≡ Some change)
             ⊎ IsAsked (state_of self.old) desk seq r.now reading change)) }
     {
-        let (answer, _told) = self.submit_told(alloc, desk, seq, r, reading);
+        let (answer, _told) = self.submit_with_prepared(alloc, desk, seq, r, reading);
         answer
     }
 
     /// Does what `submit` does. With an acceptance or a disk fault it also returns what was
     /// prepared, which takes no memory, for callers whose contracts name its entry.
-    pub fn submit_told(
+    pub fn submit_with_prepared(
         &mut self,
         alloc: Global,
         desk: Desk,

@@ -61,7 +61,7 @@ impl<D: Disk> WithStory<KeptOffice<D>, Story<D>> {
         }
         let (answer, told) = self
             .kept
-            .submit_told(alloc, asked.desk, asked.seq, &asked.request, reading);
+            .submit_with_prepared(alloc, asked.desk, asked.seq, &asked.request, reading);
         let now = Snapshot::of(&self.kept);
         note(&mut self.story.happenings, &answer, told, now);
         answer

@@ -11,7 +11,7 @@ use Rattle.event_life.specs.declared.life.Breach.{Breach}
 use Rattle.event_life.specs.declared.openings.Gap.{Gap}
 use Rattle.event_life.specs.Lives.{judged_product, AreLawful, IsLawfulFrom, IsLawfulLife}
 use Rattle.event_life.specs.Openings.{IsGapless, opened_of, gaps_of}
-use Rattle.event_life.specs.Products.{Product, is_routine, speaks_of, breach_in, judged_from, lines_of, rows_with}
+use Rattle.event_life.specs.Products.{Product, is_routine, concerns, breach_in, judged_from, lines_of, rows_with}
 use Rattle.event_life.proofs.GapsLemmas.{gapless_exactly}
 use Rattle.product_decoder.specs.declared.types.Found.{Found}
 use Rattle.product_decoder.specs.declared.types.Track.{Track}
@@ -54,7 +54,7 @@ lawful_lives rows count (p ∷ products) e z h =
     (lawful_lines e z count (judged_product rows p) q.0, lawful_lives (rows_with rows p) (count + 1) products e z q.1)
 
 own_breach : (rows : List Row) (t : ℕ) (all earlier : List Line) (line : Line) (routine : Bool) → is_routine line.action ≡ routine →
-    (speaks_of line.event line.zone line ≡ true → breach_in rows t all earlier line ≡ None) → breach_in rows t all earlier line ≡ None
+    (concerns line.event line.zone line ≡ true → breach_in rows t all earlier line ≡ None) → breach_in rows t all earlier line ≡ None
 unfolding breach_in
 own_breach rows t all earlier line true r h = rw r refl
 own_breach rows t all earlier line false r h = h (rw (r, event_itself line.event, zone_itself line.zone) refl)

@@ -15,7 +15,7 @@ use Rattle.hazard_types.proofs.Equality.{event_one, event_itself, zone_one, zone
 use Rattle.hazard_types.proofs.OrderLaws.{by_event_total, by_event_ties, by_place_total, by_place_ties}
 use Rattle.event_life.specs.declared.life.Breach.{Breach}
 use Rattle.event_life.specs.Lives.{steps_of}
-use Rattle.event_life.specs.Products.{is_routine, speaks_of, lawful_of}
+use Rattle.event_life.specs.Products.{is_routine, concerns, lawful_of}
 use Rattle.product_decoder.specs.Runs.{Taken}
 use Rattle.product_decoder.specs.declared.types.Track.{Track}
 use Rattle.product_decoder.specs.Lives.{Living, by_living}
@@ -99,7 +99,7 @@ by_living_ties a b h =
     let zone_is = by_place_ties a.zone b.zone p.1 in
     λ i. record { event = event_is i; zone = zone_is i }
 
-spoken : (line : Line) (l : Living) → speaks_of l.event l.zone line ≡ true → living_of line ≡ l
+spoken : (line : Line) (l : Living) → concerns l.event l.zone line ≡ true → living_of line ≡ l
 spoken line l h =
     let p = and_parts (not (is_routine line.action) && same_event line.event l.event) _ h in
     let q = and_parts (not (is_routine line.action)) _ p.0 in
@@ -107,12 +107,12 @@ spoken line l h =
     let zone_is = zone_one line.zone l.zone p.1 in
     λ i. record { event = event_is i; zone = zone_is i }
 
-speaks : (line : Line) (l : Living) → is_routine line.action ≡ false → l ≡ living_of line → speaks_of l.event l.zone line ≡ true
-speaks line l routine is = subst (λ (k : Living). speaks_of k.event k.zone line ≡ true) (sym is) (rw (routine, event_itself line.event, zone_itself line.zone) refl)
+speaks : (line : Line) (l : Living) → is_routine line.action ≡ false → l ≡ living_of line → concerns l.event l.zone line ≡ true
+speaks line l routine is = subst (λ (k : Living). concerns k.event k.zone line ≡ true) (sym is) (rw (routine, event_itself line.event, zone_itself line.zone) refl)
 
 -- one line more
 
-line_by : (b : Bool) (issue : ℕ) (steps : Steps) (line : Line) (l : Living) → is_routine line.action ≡ false → speaks_of l.event l.zone line ≡ b
+line_by : (b : Bool) (issue : ℕ) (steps : Steps) (line : Line) (l : Living) → is_routine line.action ≡ false → concerns l.event l.zone line ≡ b
     → steps_at (with_line issue steps line) l ≡ steps_at steps l ++ cond b ((line.action, issue) ∷ []) []
 line_by true issue steps line l routine h =
     subst (λ (k : Living). steps_at (with_line issue steps line) k ≡ steps_at steps k ++ (line.action, issue) ∷ []) (spoken line l h)
@@ -133,8 +133,8 @@ lawful_by : (b : Bool) (issue : ℕ) (steps : Steps) (line : Line) (lines : List
 lawful_by false issue steps line lines l routine later = later steps
 lawful_by true issue steps line lines l routine later =
     later (with_line issue steps line)
-    ∙ ap (λ (xs : List Step). xs ++ steps_of issue l.event l.zone lines) (line_by (speaks_of l.event l.zone line) issue steps line l (routine refl) refl)
-    ∙ joined (speaks_of l.event l.zone line) (steps_at steps l) (line.action, issue) (steps_of issue l.event l.zone lines)
+    ∙ ap (λ (xs : List Step). xs ++ steps_of issue l.event l.zone lines) (line_by (concerns l.event l.zone line) issue steps line l (routine refl) refl)
+    ∙ joined (concerns l.event l.zone line) (steps_at steps l) (line.action, issue) (steps_of issue l.event l.zone lines)
 
 no_routine : (b c : Bool) → (not b && c) ≡ true → b ≡ false
 no_routine true c h = cc

@@ -6,7 +6,7 @@ use Rattle.hazard_types.specs.Calendar.{is_digit}
 use Rattle.hazard_types.specs.Places.{is_capital}
 use Rattle.hazard_types.specs.declared.calendar.DayStamp.{DayStamp}
 use Rattle.hazard_types.specs.Digits.{is_day_stamp}
-use Rattle.hazard_types.specs.Digits.{day_stamp_in}
+use Rattle.hazard_types.specs.Digits.{parse_day_stamp}
 use Rattle.hazard_types.proofs.DayTexts.{day_stamp_read}
 use Rattle.hazard_types.specs.Characters.{is_name_byte, is_blank, is_office}
 use Rattle.product_frame.specs.Text.{line_of, is_left_out}
@@ -109,7 +109,7 @@ front_line end a b c d e f p q r s day h o one =
 abbrev pub IsLaid : Heading → Type 0
 IsLaid h = (heading_of (heading_text h) ≡ Some h) × (line_of (heading_text h) ≡ heading_text h) × IsOneLine (heading_text h)
 
-expiry_back : (day : DayStamp) → is_day_stamp day ≡ true → day_stamp_in ((48 + day.day / 10) ∷ (48 + day.day % 10) ∷ (48 + day.hour / 10) ∷ (48 + day.hour % 10) ∷ (48 + day.minute / 10) ∷ (48 + day.minute % 10) ∷ []) ≡ Some day
+expiry_back : (day : DayStamp) → is_day_stamp day ≡ true → parse_day_stamp ((48 + day.day / 10) ∷ (48 + day.day % 10) ∷ (48 + day.hour / 10) ∷ (48 + day.hour % 10) ∷ (48 + day.minute / 10) ∷ (48 + day.minute % 10) ∷ []) ≡ Some day
 expiry_back day h = day_stamp_read day h
 
 bare : (a b c d e f p q r s : ℕ) (day : DayStamp) → is_ttaaii (a ∷ b ∷ c ∷ d ∷ e ∷ f ∷ []) ≡ true → IsOffice p q r s → is_day_stamp day ≡ true →

@@ -7,7 +7,7 @@ use Rattle.hazard_types.specs.Calendar.{is_digit}
 use Rattle.hazard_types.specs.Characters.{is_name_byte, is_blank}
 use Rattle.hazard_types.specs.Places.{is_capital}
 use Rattle.hazard_types.specs.declared.calendar.DayStamp.{DayStamp}
-use Rattle.hazard_types.specs.Digits.{day_stamp_in}
+use Rattle.hazard_types.specs.Digits.{parse_day_stamp}
 use Rattle.product_frame.specs.declared.frame.Heading.{Heading}
 
 -- four capital letters and two digits
@@ -36,7 +36,7 @@ may_be_heading rest = nat_le 12 (length rest) && is_front rest
 
 -- WWUS41 KLWX 031530
 unfoldable pub heading_by : List ℕ → Option (List ℕ) → Option Heading
-heading_by line bbb = if is_front line then option_map (heading_with line bbb) (day_stamp_in (slice_range line 12 18)) else None
+heading_by line bbb = if is_front line then option_map (heading_with line bbb) (parse_day_stamp (slice_range line 12 18)) else None
 
 -- and optionally a blank and three letters
 unfoldable pub heading_of : List ℕ → Option Heading

@@ -17,7 +17,7 @@ use crate::text::{line_of, next_start};
 use crate::walk::walk_lines;
 use desk_clock::{near, read_local_line};
 use hazard_types::{
-    DayStamp, List, Minute, Oom, Or, Text, are_name_bytes, day_stamp_in, is_blank, is_name_byte,
+    DayStamp, List, Minute, Oom, Or, Text, are_name_bytes, is_blank, is_name_byte, parse_day_stamp,
 };
 use std::alloc::Global;
 
@@ -59,7 +59,7 @@ fn heading_by(line: &[u8], bbb: Option<[u8; 3]>) -> Option<Heading>
     if !is_front(line) {
         return None;
     }
-    let day = day_stamp_in(&line[12..18])?;
+    let day = parse_day_stamp(&line[12..18])?;
     let ttaaii = [line[0], line[1], line[2], line[3], line[4], line[5]];
     let office = [line[7], line[8], line[9], line[10]];
     Some(Heading {

@@ -21,10 +21,10 @@ abbrev pub told_on : List TextLength → Event → ℕ
 told_on [] e = 0
 told_on (x ∷ told) e = if same_event x.event e then x.bytes else told_on told e
 
-abbrev pub told_in_lines : List TextLength → List SegLine → ℕ
-told_in_lines told [] = 0
-told_in_lines told (l ∷ lines) = told_on told l.event + told_in_lines told lines
+abbrev pub length_in_lines : List TextLength → List SegLine → ℕ
+length_in_lines told [] = 0
+length_in_lines told (l ∷ lines) = told_on told l.event + length_in_lines told lines
 
-abbrev pub told_in_segments : List TextLength → List Segment → ℕ
-told_in_segments told [] = 0
-told_in_segments told (s ∷ segments) = told_in_lines told s.lines + told_in_segments told segments
+abbrev pub length_in_segments : List TextLength → List Segment → ℕ
+length_in_segments told [] = 0
+length_in_segments told (s ∷ segments) = length_in_lines told s.lines + length_in_segments told segments

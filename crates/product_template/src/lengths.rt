@@ -1,6 +1,6 @@
 //! The length of a text, computed without laying out the forecasters' texts in each line.
 ghost use Rattle.std.specs.Prelude.{◌≡◌, ◌+◌, map, length, IfOk};
-ghost use Rattle.product_template.specs.Lengths.{texts_length, told_of, told_on, told_in_lines, told_in_segments};
+ghost use Rattle.product_template.specs.Lengths.{texts_length, told_of, told_on, length_in_lines, length_in_segments};
 
 use crate::bullets::{put_back, put_front};
 use hazard_types::{Event, List, Oom, SegLine, Segment, Text};
@@ -77,8 +77,8 @@ fn told_on(told: &[TextLength], event: &Event) -> usize
     0
 }
 
-fn told_in_lines(told: &[TextLength], lines: &[SegLine]) -> Result<usize, Oom>
-    ensures { IfOk result (λ n. n ≡ told_in_lines told.now lines.now) }
+fn length_in_lines(told: &[TextLength], lines: &[SegLine]) -> Result<usize, Oom>
+    ensures { IfOk result (λ n. n ≡ length_in_lines told.now lines.now) }
 {
     let mut sum = 0;
     for line in lines {
@@ -92,12 +92,12 @@ fn told_in_lines(told: &[TextLength], lines: &[SegLine]) -> Result<usize, Oom>
 /// # Errors
 ///
 /// `Oom` if the sum overflows.
-pub fn told_in_segments(told: &[TextLength], segments: &[Segment]) -> Result<usize, Oom>
-    ensures { IfOk result (λ n. n ≡ told_in_segments told.now segments.now) }
+pub fn length_in_segments(told: &[TextLength], segments: &[Segment]) -> Result<usize, Oom>
+    ensures { IfOk result (λ n. n ≡ length_in_segments told.now segments.now) }
 {
     let mut sum = 0;
     for segment in segments {
-        sum = checked_sum(sum, told_in_lines(told, segment.lines.as_slice())?)?;
+        sum = checked_sum(sum, length_in_lines(told, segment.lines.as_slice())?)?;
     }
     Ok(sum)
 }

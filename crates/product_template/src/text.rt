@@ -11,7 +11,7 @@ ghost use Rattle.product_template.specs.Text.{frame_of, text_of, text_with};
 
 use crate::bodies::bodies_of;
 use crate::frame::{block_of, frame_of};
-use crate::lengths::{checked_sum, each_told, may_be_long, told_in_segments};
+use crate::lengths::{checked_sum, each_told, length_in_segments, may_be_long};
 use desk_settings::Settings;
 use hazard_types::{Class, Minute, Oom, Or, Text};
 use office_types::{Edition, EventTexts, Plan, Refusal};
@@ -66,7 +66,7 @@ fn text_length(
     ensures { IfOk result (λ n. n ≡ length (text_of settings.now class plan.now t edition)) }
 {
     let told = each_told(alloc, plan.texts.as_slice())?;
-    let said = told_in_segments(told.as_slice(), plan.segments.as_slice())?;
+    let said = length_in_segments(told.as_slice(), plan.segments.as_slice())?;
     let bare = whole_text(alloc, settings, class, plan, &[], t, edition)?;
     checked_sum(bare.len(), said)
 }

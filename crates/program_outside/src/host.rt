@@ -16,7 +16,7 @@ pub type HostOutside<'a> = Outside<
 >;
 
 /// Returns the command line, standard input, standard output, and standard error for messages.
-pub fn outside_of(rt: &HostRuntime) -> HostOutside<'_> {
+pub fn host_io(rt: &HostRuntime) -> HostOutside<'_> {
     Outside {
         alloc: rt.alloc(),
         words: words_of(rt.alloc(), env::args(rt)),

@@ -1,5 +1,5 @@
 //! What a program has from the system as one value: arguments, input, output, messages, and the
-//! files that it opens. For `main` functions and for programs of rows. One begins with `outside_of`
+//! files that it opens. For `main` functions and for programs of rows. One begins with `host_io`
 //! and `HostFiles::new` in `main`, or makes an `Outside` of streams in memory, and then calls
 //! `Outside::given`.
 #![tactic(auto)]
@@ -10,6 +10,6 @@ mod outside;
 mod words;
 
 pub use files::{Access, Files};
-pub use host::{HostFiles, HostOutside, outside_of};
+pub use host::{HostFiles, HostOutside, host_io};
 pub use outside::Outside;
 pub use words::words_of;

@@ -10,8 +10,8 @@ ghost use Rattle.request_json.specs.Fields.{begin_at, end_at, desk_named, if_cou
 
 use crate::keys::Keys;
 use hazard_types::{
-    Begin, Cause, End, Event, Flood, List, Minute, Oom, Severity, Status, Text, Zone, event_in,
-    find, location_in, read_stamp, written_causes, zone_in,
+    Begin, Cause, End, Event, Flood, List, Minute, Oom, Severity, Status, Text, Zone, find,
+    parse_event, parse_location, parse_zone, read_stamp, written_causes,
 };
 use office_types::{Desk, EventTexts, Texts};
 use serde_json::Value;
@@ -68,7 +68,7 @@ fn zone_of(value: &Value) -> Option<Zone>
     ensures { result ≡ option_and_then zone_at (as_str (view value.now)) }
 {
     let text = value.as_str()?;
-    zone_in(text.as_bytes())
+    parse_zone(text.as_bytes())
 }
 
 /// Returns the zones that the values are, or `None` if one is no zone.
@@ -109,7 +109,7 @@ pub fn zones_at(alloc: Global, value: &Value) -> Result<Option<List<Zone>>, Oom>
 fn location_of(text: &str) -> Option<[u8; 5]>
     ensures { result ≡ location_at text.now }
 {
-    location_in(text.as_bytes())
+    parse_location(text.as_bytes())
 }
 
 /// Returns the minute of a stamp, `Some(None)` for `000000T0000Z`, or `None` if the text is
@@ -259,7 +259,7 @@ pub fn event_of(value: &Value) -> Option<Event>
     ensures { result ≡ option_and_then event_at (text_at (codes "event") (view value.now)) }
 {
     let text = text_at(value, "event")?;
-    event_in(text.as_bytes())
+    parse_event(text.as_bytes())
 }
 
 /// Returns the event and the texts of an object, or `None` if one is missing or wrong, if a key is

@@ -8,7 +8,7 @@ use Rattle.event_life.specs.Lives.{opens}
 use Rattle.hazard_types.specs.declared.line.Line.{Line}
 use Rattle.hazard_types.specs.declared.line.Row.{Row}
 use Rattle.event_life.specs.Products.{row_at, row_of, row_after, life_of, life_at, has_rows}
-use Rattle.event_life.specs.Table.{life_after, left_of_life}
+use Rattle.event_life.specs.Table.{life_after_lawful_line, life_after_line}
 use Rattle.event_life.proofs.Members.{find_in}
 use Rattle.event_life.proofs.Puts.{at_key}
 
@@ -16,14 +16,14 @@ pub row_at-own : (rows : List Row) (line : Line) (own : Row) → row_at rows lin
 row_at-own rows line own found = let own_at = (find_in (at_key line.event line.zone) rows own found).1 in rw own_at (sym found)
 
 pub row_after-own : (rows : List Row) (t : ℕ) (line : Line) (own : Row) → row_at rows line.event line.zone ≡ Some own → row_after (own ∷ []) t line ≡ row_after rows t line
-row_after-own rows t line own found = ap (λ (o : Option Row). row_of line (life_after (option_map life_of o) line t)) (row_at-own rows line own found)
+row_after-own rows t line own found = ap (λ (o : Option Row). row_of line (life_after_lawful_line (option_map life_of o) line t)) (row_at-own rows line own found)
 
 -- a line that opens a spell leaves nothing of the one before
-opened_by : (a : Action) → opens a ≡ true → (life : Life) (line : Line) (t : ℕ) → a ≡ line.action → life_after None line t ≡ life_after (Some life) line t
-unfolding life_after
-opened_by New h life line t is = ap (λ (a : Action). left_of_life a life line t) is
-opened_by Exa h life line t is = ap (λ (a : Action). left_of_life a life line t) is
-opened_by Exb h life line t is = ap (λ (a : Action). left_of_life a life line t) is
+opened_by : (a : Action) → opens a ≡ true → (life : Life) (line : Line) (t : ℕ) → a ≡ line.action → life_after_lawful_line None line t ≡ life_after_lawful_line (Some life) line t
+unfolding life_after_lawful_line
+opened_by New h life line t is = ap (λ (a : Action). life_after_line a life line t) is
+opened_by Exa h life line t is = ap (λ (a : Action). life_after_line a life line t) is
+opened_by Exb h life line t is = ap (λ (a : Action). life_after_line a life line t) is
 opened_by Con h life line t is = cc
 opened_by Ext h life line t is = cc
 opened_by Upg h life line t is = cc
@@ -32,7 +32,7 @@ opened_by Exp h life line t is = cc
 opened_by Cor h life line t is = cc
 opened_by Rou h life line t is = cc
 
-opened_all : (o : Option Life) (line : Line) (t : ℕ) → opens line.action ≡ true → life_after None line t ≡ life_after o line t
+opened_all : (o : Option Life) (line : Line) (t : ℕ) → opens line.action ≡ true → life_after_lawful_line None line t ≡ life_after_lawful_line o line t
 opened_all None line t h = refl
 opened_all (Some life) line t h = opened_by line.action h life line t refl
 

@@ -19,9 +19,9 @@ use Rattle.event_life.specs.declared.life.Life.{Life}
 use Rattle.event_life.specs.declared.life.Around.{Around}
 use Rattle.event_life.specs.declared.life.Breach.{Breach}
 use Rattle.event_life.specs.declared.life.Breach.TheVariants.{Twice}
-use Rattle.event_life.specs.Products.{has_rows, is_open, is_held, has_same, around_but_higher, life_at, is_routine, is_upgrade, is_second, has_higher, around_of, breach_in, put, row_at, row_after, put_but_upgrades, judged_from}
+use Rattle.event_life.specs.Products.{has_rows, is_open, is_held, has_same, around_but_higher, life_at, is_routine, is_upgrade, is_second, has_higher, around_of, breach_in, put, row_at, row_after, rows_after_all_but_upgrades, judged_from}
 use Rattle.event_life.specs.Seats.{may_count}
-use Rattle.event_life.specs.Table.{opened_period, first_of, on_new, on_joining, on_life, on_nothing, breach_of_line, life_after, unless_breach, step}
+use Rattle.event_life.specs.Table.{opened_period, first_of, on_new, on_joining, on_life, on_nothing, breach_of_line, life_after_lawful_line, unless_breach, step}
 use Rattle.event_life.proofs.HigherLemmas.{breach-higher}
 use Rattle.row_index.specs.Seating.{upgrades}
 use Rattle.row_index.specs.Steps.{AreHigher, AreOver, asks_alike, asked_around, nothing_around}
@@ -89,13 +89,13 @@ unless_err (Some b) x e h = let same : e ≡ b = cc in ap Some same
 pub step_ok : (rows : List Row) (line : Line) (t : ℕ) (higher : Bool) (before : Option Life) (around : Around) (life : Life) → before ≡ life_at rows line → around ≡ asked_around line.action rows t line higher
     → ◌≡◌ {A = Result Life Breach} (Ok life) (step before line t around) → None ≡ breach_of_line (life_at rows line) line t (around_but_higher rows t line higher)
 step_ok rows line t higher before around life before_is around_is h =
-    unless_ok (breach_of_line before line t around) (life_after before line t) life h
+    unless_ok (breach_of_line before line t around) (life_after_lawful_line before line t) life h
     ∙ (λ i. breach_of_line (before_is i) line t (around_is i)) ∙ breach-asked rows line t higher (life_at rows line)
 
 pub step_err : (rows : List Row) (line : Line) (t : ℕ) (higher : Bool) (before : Option Life) (around : Around) (breach : Breach) → before ≡ life_at rows line → around ≡ asked_around line.action rows t line higher
     → ◌≡◌ {A = Result Life Breach} (Err breach) (step before line t around) → Some breach ≡ breach_of_line (life_at rows line) line t (around_but_higher rows t line higher)
 step_err rows line t higher before around breach before_is around_is h =
-    unless_err (breach_of_line before line t around) (life_after before line t) breach h
+    unless_err (breach_of_line before line t around) (life_after_lawful_line before line t) breach h
     ∙ (λ i. breach_of_line (before_is i) line t (around_is i)) ∙ breach-asked rows line t higher (life_at rows line)
 
 -- lines that open a spell alike
@@ -210,14 +210,14 @@ judged_next rows t lines found next all i line breach lt is breach_is made h =
 pub counted_next : (rows : List Row) (t : ℕ) (lines : List Line) (es next all : List Row) (i : ℕ) (line : Line) (second counts : Bool) (row : Row) → i < length lines → line ≡ get_or lines i line
     → second ≡ is_second (take i lines) line
     → counts ≡ (not (is_routine line.action) && not (is_upgrade line.action) && not second && is_none (breach_of_line (life_at rows line) line t (around_but_higher rows t line true)))
-    → row ≡ row_after rows t line → next ≡ cond counts (put row es) es → put_but_upgrades rows t (take i lines) (drop i lines) es ≡ all
-    → put_but_upgrades rows t (take (i + 1) lines) (drop (i + 1) lines) next ≡ all
+    → row ≡ row_after rows t line → next ≡ cond counts (put row es) es → rows_after_all_but_upgrades rows t (take i lines) (drop i lines) es ≡ all
+    → rows_after_all_but_upgrades rows t (take (i + 1) lines) (drop (i + 1) lines) next ≡ all
 counted_next rows t lines es next all i line second counts row lt is second_is counts_is row_is made h =
     let rest = drop (i + 1) lines in
     let counts_so : counts ≡ may_count rows t (take i lines) line = counts_is ∙ ap (λ (b : Bool). not (is_routine line.action) && not (is_upgrade line.action) && not b && is_none (breach_of_line (life_at rows line) line t (around_but_higher rows t line true))) second_is in
-    ap (λ (earlier : List Line). put_but_upgrades rows t earlier rest next) (one_longer lines i line lt is)
-    ∙ ap (λ (xs : List Row). put_but_upgrades rows t (take i lines ++ line ∷ []) rest xs) (made ∙ (λ i. cond (counts_so i) (put (row_is i) es) es))
-    ∙ ap (λ (more : List Line). put_but_upgrades rows t (take i lines) more es) (sym (cut_at lines i line lt is))
+    ap (λ (earlier : List Line). rows_after_all_but_upgrades rows t earlier rest next) (one_longer lines i line lt is)
+    ∙ ap (λ (xs : List Row). rows_after_all_but_upgrades rows t (take i lines ++ line ∷ []) rest xs) (made ∙ (λ i. cond (counts_so i) (put (row_is i) es) es))
+    ∙ ap (λ (more : List Line). rows_after_all_but_upgrades rows t (take i lines) more es) (sym (cut_at lines i line lt is))
     ∙ h
 
 -- one of the lines is a UPG line

@@ -17,13 +17,13 @@ use Rattle.hazard_types.specs.declared.line.Row.{Row}
 use Rattle.hazard_types.proofs.Equality.{zone_one}
 use Rattle.event_life.specs.Higher.{family_of, is_above, may_yield, outranks}
 use Rattle.event_life.specs.Periods.{is_live, overlaps}
-use Rattle.event_life.specs.Products.{by_key, put, row_at, row_after, is_routine, is_upgrade, speaks_of, put_but_upgrades, end_upgraded, rows_for_higher, is_overlapped, has_higher}
+use Rattle.event_life.specs.Products.{by_key, put, row_at, row_after, is_routine, is_upgrade, concerns, rows_after_all_but_upgrades, end_upgraded, rows_for_higher, is_overlapped, has_higher}
 use Rattle.event_life.specs.Seats.{may_count, is_upgraded}
 use Rattle.event_life.proofs.Members.{any_in, find_in, in_any, one_way}
 use Rattle.event_life.proofs.Puts.{at_key, at_key-parts, row_at-put, put-sorted}
 use Rattle.row_index.specs.declared.seats.Seat.{Seat}
 use Rattle.row_index.specs.Numbers.{is_in_zone}
-use Rattle.row_index.specs.Seating.{by_seat, seat_of, seat_said, has_seat, upgrades}
+use Rattle.row_index.specs.Seating.{by_seat, seat_of, key_of_line, has_seat, upgrades}
 use Rattle.row_index.specs.Steps as index
 use Rattle.row_index.specs.Steps.{AreHigher, IsChanged, rises_over, stays_over, is_free, still_over}
 use Rattle.row_index.specs.Telling.{Tells}
@@ -91,14 +91,14 @@ over_counted true row es rows after up up_after over = over_put row es rows afte
 over_counted false row es rows after up up_after over = over
 
 over_all : (before : List Row) (t : ℕ) (earlier lines : List Line) (es rows after : List Row) → IsStrictlySortedBy by_key es → IsStrictlySortedBy by_key after → Over es rows after
-    → Over (put_but_upgrades before t earlier lines es) rows (put_but_upgrades before t earlier lines after)
+    → Over (rows_after_all_but_upgrades before t earlier lines es) rows (rows_after_all_but_upgrades before t earlier lines after)
 over_all before t earlier [] es rows after up up_after over = over
 over_all before t earlier (line ∷ lines) es rows after up up_after over =
     let b = may_count before t earlier line in
     let row = row_after before t line in
     over_all before t (earlier ++ line ∷ []) lines (counted b row es) rows (counted b row after) (counted-sorted b row es up) (counted-sorted b row after up_after) (over_counted b row es rows after up up_after over)
 
-over_lines : (rows : List Row) (t : ℕ) (lines : List Line) → IsStrictlySortedBy by_key rows → Over (put_but_upgrades rows t [] lines []) rows (put_but_upgrades rows t [] lines rows)
+over_lines : (rows : List Row) (t : ℕ) (lines : List Line) → IsStrictlySortedBy by_key rows → Over (rows_after_all_but_upgrades rows t [] lines []) rows (rows_after_all_but_upgrades rows t [] lines rows)
 unfolding IsStrictlySortedBy
 over_lines rows t lines up = over_all rows t [] lines [] rows rows tt up (over_none rows)
 
@@ -127,10 +127,10 @@ said_alike Exp x y = refl
 said_alike Cor x y = refl
 said_alike Rou x y = refl
 
-upgraded_told : (seats : List Seat) (lines : List Line) (r : Row) → Tells upgrades seat_said seats lines → has_seat seats (seat_of r) ≡ is_upgraded lines r
+upgraded_told : (seats : List Seat) (lines : List Line) (r : Row) → Tells upgrades key_of_line seats lines → has_seat seats (seat_of r) ≡ is_upgraded lines r
 upgraded_told seats lines r tells =
     tells (is_at (by_seat (seat_of r)))
-    ∙ any_same (λ (l : Line). upgrades l && is_at (by_seat (seat_of r)) (seat_said l)) (λ (l : Line). is_upgrade l.action && speaks_of r.event r.zone l) lines
+    ∙ any_same (λ (l : Line). upgrades l && is_at (by_seat (seat_of r)) (key_of_line l)) (λ (l : Line). is_upgrade l.action && concerns r.event r.zone l) lines
     (λ l. ap (λ (b : Bool). upgrades l && b) (seat_tied r.event l.event r.zone l.zone) ∙ said_alike l.action (same_event l.event r.event) (same_zone l.zone r.zone))
 
 -- a higher row
@@ -209,7 +209,7 @@ module _ (rows : List Row) (t : ℕ) (lines : List Line) (counted : List Row) (s
   over_told : (own : Row) → (list_any (stays_over t (rank own) seats own) (filter (is_in_zone own.zone) counted) || list_any (still_over t (rank own) counted seats own) (filter (is_in_zone own.zone) rows))
       ≡ is_overlapped (rows_for_higher rows t lines) t (Some own)
   over_told own =
-      let over = subst (λ (es : List Row). Over es rows (put_but_upgrades rows t [] lines rows)) (sym changed.put) (over_lines rows t lines up) in
+      let over = subst (λ (es : List Row). Over es rows (rows_after_all_but_upgrades rows t [] lines rows)) (sym changed.put) (over_lines rows t lines up) in
       let first : list_any (stays_over t (rank own) seats own) (filter (is_in_zone own.zone) counted) ≡ list_any (kept own) counted =
       any_filtered (stays_over t (rank own) seats own) (is_in_zone own.zone) counted
       ∙ any_same (λ r. is_in_zone own.zone r && stays_over t (rank own) seats own r) (kept own) counted (stays_told own) in
@@ -218,7 +218,7 @@ module _ (rows : List Row) (t : ℕ) (lines : List Line) (counted : List Row) (s
       ∙ any_same (λ r. is_in_zone own.zone r && still_over t (rank own) counted seats own r) (λ r. kept own r && in_place counted r) rows (still_told own) in
       (λ i. first i || later i)
       ∙ sym (over (kept own))
-      ∙ sym (any_ended (overlaps_own t own) lines (put_but_upgrades rows t [] lines rows) (none_ended t own))
+      ∙ sym (any_ended (overlaps_own t own) lines (rows_after_all_but_upgrades rows t [] lines rows) (none_ended t own))
 
   higher_own : (line : Line) (own : Row) → row_at rows line.event line.zone ≡ Some own → index.is_overlapped rows t counted seats (rank own) own ≡ has_higher rows t lines line
   higher_own line own found =

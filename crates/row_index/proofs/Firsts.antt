@@ -15,13 +15,13 @@ use Rattle.hazard_types.specs.declared.line.Line.{Line}
 use Rattle.hazard_types.specs.declared.line.Row.{Row}
 use Rattle.hazard_types.proofs.OrderLaws.{by_place_total, by_event_total, by_event_ties}
 use Rattle.event_life.specs.declared.life.Breach.{Breach}
-use Rattle.event_life.specs.Products.{breach_in, is_routine, is_second, judged_from, speaks_of}
+use Rattle.event_life.specs.Products.{breach_in, is_routine, is_second, judged_from, concerns}
 use Rattle.row_index.specs.declared.seats.Seat.{Seat}
 use Rattle.row_index.specs.declared.verdicts.Part.{Part}
 use Rattle.row_index.specs.Apart.{all_rise, is_past, last_zone, zones_rise, AreEventsOf, SaysAll, Spoke}
 use Rattle.row_index.specs.Risen.{Says}
 use Rattle.row_index.specs.Runs.{in_zone}
-use Rattle.row_index.specs.Seating.{has_seat, seat_said, speaks}
+use Rattle.row_index.specs.Seating.{has_seat, key_of_line, speaks}
 use Rattle.row_index.specs.Telling.{Tells}
 use Rattle.row_index.specs.Verdicts.{first_judged, lines_in, said_along, said_at, said_in, AreFirst, HaveOwnEvents, Judged}
 use Rattle.row_index.proofs.Seated.{event_by, same_by, second_told}
@@ -62,7 +62,7 @@ none_each p (x ∷ xs) h = let both = either_false (p x) (list_any p xs) h in (b
 -- a line that speaks is no second one where only zones before it were spoken of, or other events in its zone
 
 abbrev IsPast : Option Place → List Line → Type 0
-IsPast last earlier = (e : Event) (z : Place) → is_past last z ≡ true → list_any (speaks_of e z) earlier ≡ false
+IsPast last earlier = (e : Event) (z : Place) → is_past last z ≡ true → list_any (concerns e z) earlier ≡ false
 
 past_last : (last : Option Place) (z y : Place) → is_past last z ≡ true → by_place z y ≡ Less → is_past last y ≡ true
 past_last None z y h less = refl
@@ -71,19 +71,19 @@ past_last (Some l) z y h less = ap is_lt (by_place_total.trans l z y (less_of (b
 zones_apart : (z y : Place) → by_place z y ≡ Less → same_zone z y ≡ false
 zones_apart z y less = sym (same_by Greater y z (by_place_total.antisymm y z ∙ ap ordering_reverse less))
 
-none_in : (lines : List Line) (z y : Place) (e : Event) → by_place z y ≡ Less → list_any (speaks_of e y) (said_at lines z) ≡ false
+none_in : (lines : List Line) (z y : Place) (e : Event) → by_place z y ≡ Less → list_any (concerns e y) (said_at lines z) ≡ false
 none_in [] z y e less = refl
 none_in (l ∷ lines) z y e less =
-    none_of (speaks_of e y (in_zone l z)) (list_any (speaks_of e y) (said_at lines z)) (other_zone (not (is_routine l.action)) (same_event l.event e) (same_zone z y) (zones_apart z y less)) (none_in lines z y e less)
+    none_of (concerns e y (in_zone l z)) (list_any (concerns e y) (said_at lines z)) (other_zone (not (is_routine l.action)) (same_event l.event e) (same_zone z y) (zones_apart z y less)) (none_in lines z y e less)
 
 past_zone : (lines : List Line) (z : Place) (earlier : List Line) (last : Option Place) → IsPast last earlier → is_past last z ≡ true → IsPast (Some z) (earlier ++ said_at lines z)
 past_zone lines z earlier last past here = λ e y h.
     let less = less_of (by_place z y) h in
-    list_any-append (speaks_of e y) earlier (said_at lines z)
-    ∙ none_of (list_any (speaks_of e y) earlier) (list_any (speaks_of e y) (said_at lines z)) (past e y (past_last last z y here less)) (none_in lines z y e less)
+    list_any-append (concerns e y) earlier (said_at lines z)
+    ∙ none_of (list_any (concerns e y) earlier) (list_any (concerns e y) (said_at lines z)) (past e y (past_last last z y here less)) (none_in lines z y e less)
 
 abbrev AreOther : Place → List Line → List Line → Type 0
-AreOther z earlier lines = AllByRecursion (λ (l : Line). list_any (speaks_of l.event z) earlier ≡ false) lines
+AreOther z earlier lines = AllByRecursion (λ (l : Line). list_any (concerns l.event z) earlier ≡ false) lines
 
 past_each : (lines : List Line) (z : Place) (earlier : List Line) (last : Option Place) → IsPast last earlier → is_past last z ≡ true → AreOther z earlier lines
 past_each [] z earlier last past here = tt
@@ -92,9 +92,9 @@ past_each (l ∷ lines) z earlier last past here = (past l.event z here, past_ea
 still_other : (lines : List Line) (z : Place) (earlier : List Line) (l : Line) → AreOther z earlier lines → AllByRecursion (λ (m : Line). same_event l.event m.event ≡ false) lines → AreOther z (earlier ++ in_zone l z ∷ []) lines
 still_other [] z earlier l other own = tt
 still_other (m ∷ lines) z earlier l other own =
-    let here = list_any-append (speaks_of m.event z) earlier (in_zone l z ∷ [])
-    ∙ none_of (list_any (speaks_of m.event z) earlier) (speaks_of m.event z (in_zone l z) || false) other.0
-    (or_false (speaks_of m.event z (in_zone l z)) ∙ other_event (not (is_routine l.action)) (same_event l.event m.event) (same_zone z z) own.0) in
+    let here = list_any-append (concerns m.event z) earlier (in_zone l z ∷ [])
+    ∙ none_of (list_any (concerns m.event z) earlier) (concerns m.event z (in_zone l z) || false) other.0
+    (or_false (concerns m.event z (in_zone l z)) ∙ other_event (not (is_routine l.action)) (same_event l.event m.event) (same_zone z z) own.0) in
     (here, still_other lines z earlier l other.1 own.1)
 
 in_one_zone : (lines : List Line) (z : Place) (earlier rest : List Line) → AreOther z earlier lines → HaveOwnEvents lines → AreFirst (earlier ++ said_at lines z) rest → AreFirst earlier (said_at lines z ++ rest)
@@ -182,10 +182,10 @@ spoke_none seats = record { are_new = λ earlier tells. tt; said = λ q. sym (or
 pub spoke_start : (seats : List Seat) → seats ≡ [] → Spoke [] seats []
 spoke_start seats none = subst (λ (all : List Seat). Spoke [] all []) (sym none) (spoke_none [])
 
-spoke_one : (old new : List Seat) (l : Line) (second : Bool) → second ≡ has_seat old (seat_said l) → second ≡ false → Says old new (speaks l) l → Spoke old new (l ∷ [])
+spoke_one : (old new : List Seat) (l : Line) (second : Bool) → second ≡ has_seat old (key_of_line l) → second ≡ false → Says old new (speaks l) l → Spoke old new (l ∷ [])
 spoke_one old new l second second_is h says = record {
   are_new = λ earlier tells. (sym (second_told old earlier l tells) ∙ sym second_is ∙ h, tt);
-  said = λ q. says q ∙ ap (λ (b : Bool). list_any q old || b) (sym (or_false (speaks l && q (seat_said l))));
+  said = λ q. says q ∙ ap (λ (b : Bool). list_any q old || b) (sym (or_false (speaks l && q (key_of_line l))));
 }
 
 or_assoc : (a b c : Bool) → ((a || b) || c) ≡ (a || (b || c))
@@ -197,27 +197,27 @@ first_both [] earlier ys first more = subst (λ (all : List Line). AreFirst all 
 first_both (x ∷ xs) earlier ys first more =
     (first.0, first_both xs (earlier ++ x ∷ []) ys first.1 (subst (λ (all : List Line). AreFirst all ys) (sym (append_assoc earlier (x ∷ []) xs)) more))
 
-tells_both : (old new : List Seat) (earlier lines : List Line) → SaysAll old new lines → Tells speaks seat_said old earlier → Tells speaks seat_said new (earlier ++ lines)
+tells_both : (old new : List Seat) (earlier lines : List Line) → SaysAll old new lines → Tells speaks key_of_line old earlier → Tells speaks key_of_line new (earlier ++ lines)
 tells_both old new earlier lines said tells = λ q.
     said q
-    ∙ ap (λ (b : Bool). b || list_any (λ (l : Line). speaks l && q (seat_said l)) lines) (tells q)
-    ∙ sym (list_any-append (λ (l : Line). speaks l && q (seat_said l)) earlier lines)
+    ∙ ap (λ (b : Bool). b || list_any (λ (l : Line). speaks l && q (key_of_line l)) lines) (tells q)
+    ∙ sym (list_any-append (λ (l : Line). speaks l && q (key_of_line l)) earlier lines)
 
 spoke_both : (old mid new : List Seat) (xs ys : List Line) → Spoke old mid xs → Spoke mid new ys → Spoke old new (xs ++ ys)
 spoke_both old mid new xs ys a b = record {
   are_new = λ earlier tells. first_both xs earlier ys (a.are_new earlier tells) (b.are_new (earlier ++ xs) (tells_both old mid earlier xs a.said tells));
   said = λ q. b.said q
-      ∙ ap (λ (c : Bool). c || list_any (λ (l : Line). speaks l && q (seat_said l)) ys) (a.said q)
-      ∙ or_assoc (list_any q old) (list_any (λ (l : Line). speaks l && q (seat_said l)) xs) (list_any (λ (l : Line). speaks l && q (seat_said l)) ys)
-      ∙ ap (λ (c : Bool). list_any q old || c) (sym (list_any-append (λ (l : Line). speaks l && q (seat_said l)) xs ys));
+      ∙ ap (λ (c : Bool). c || list_any (λ (l : Line). speaks l && q (key_of_line l)) ys) (a.said q)
+      ∙ or_assoc (list_any q old) (list_any (λ (l : Line). speaks l && q (key_of_line l)) xs) (list_any (λ (l : Line). speaks l && q (key_of_line l)) ys)
+      ∙ ap (λ (c : Bool). list_any q old || c) (sym (list_any-append (λ (l : Line). speaks l && q (key_of_line l)) xs ys));
 }
 
 pub spoke_line : (lines : List Line) (i : ℕ) (l : Line) (z : Place) (old now next : List Seat) (second counts : Bool) (m : Line) → i < length lines → l ≡ get_or lines i l → m ≡ in_zone l z → counts ≡ not (is_routine l.action)
-    → second ≡ has_seat now (seat_said m) → second ≡ false → Says now next counts m → Spoke old now (said_at (take i lines) z) → Spoke old next (said_at (take (i + 1) lines) z)
+    → second ≡ has_seat now (key_of_line m) → second ≡ false → Says now next counts m → Spoke old now (said_at (take i lines) z) → Spoke old next (said_at (take (i + 1) lines) z)
 spoke_line lines i l z old now next second counts m lt is m_is counts_is second_is h says sofar =
     let here = in_zone l z in
     let said = subst (λ (x : Line). Says now next (speaks here) x) m_is (subst (λ (b : Bool). Says now next b m) counts_is says) in
-    let one = spoke_one now next here second (second_is ∙ ap (λ (x : Line). has_seat now (seat_said x)) m_is) h said in
+    let one = spoke_one now next here second (second_is ∙ ap (λ (x : Line). has_seat now (key_of_line x)) m_is) h said in
     let all = ap (λ (xs : List Line). said_at xs z) (longer lines i l lt is) ∙ map-append (λ (x : Line). in_zone x z) (take i lines) (l ∷ []) in
     subst (λ (xs : List Line). Spoke old next xs) (sym all) (spoke_both old now next (said_at (take i lines) z) (here ∷ []) sofar one)
 

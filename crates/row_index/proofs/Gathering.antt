@@ -429,13 +429,13 @@ module _ (es : List (Event × List Row)) (keys : List Reach) (t from : ℕ) (lin
     part = λ e y r is. part_of (list_any (is_at (by_event e)) events && has_zone zones y && lives from (row_at (told es) e y)) (row_at (told es) e y) r (sym (gathered.found e y) ∙ is);
     all = λ e r high is live over.
         let zone_is : own.zone ≡ line.zone = (row-own (told es) line.event line.zone own own_is).1 in
-        let zone_in : has_zone zones own.zone ≡ true =
+        let parse_zone : has_zone zones own.zone ≡ true =
         ap (has_zone zones) zone_is ∙ zones_are (is_at (by_place line.zone)) ∙ in_any (λ (l : Line). upgrades l && is_at (by_place line.zone) l.zone) lines line there (rw (up, at_own by_place by_place_total by_place_ties line.zone) refl) in
         let ranked : is_above_any ranks e ≡ true = ranks_are (λ low. is_above (rank_of e) low) ∙ in_any (λ (l : Line). upgrades l && is_above (rank_of e) (rank_said l)) lines line there (rw (up, high) refl) in
         let still = still_live from_is line there up own r own_is live over in
-        let event_in : list_any (is_at (by_event e)) events ≡ true = found-among es keys zones from ranks events e own.zone r held reaches events_are zone_in is still ranked (has_rank (rank_of e) (rank_said line) high) in
+        let parse_event : list_any (is_at (by_event e)) events ≡ true = found-among es keys zones from ranks events e own.zone r held reaches events_are parse_zone is still ranked (has_rank (rank_of e) (rank_said line) high) in
         let lives_is : lives from (row_at (told es) e own.zone) ≡ true = ap (lives from) is ∙ still in
-        gathered.found e own.zone ∙ rw (event_in, zone_in, lives_is) is;
+        gathered.found e own.zone ∙ rw (parse_event, parse_zone, lives_is) is;
   }
 
   over_lines : from ≡ unwrap_or (least_of (told es) t None lines) t → AreGathered (told es) from zones events higher → AreOver (told es) t lines higher

@@ -15,7 +15,7 @@ use Rattle.hazard_types.specs.declared.codes.Action.TheVariants.{New, Con, Exa, 
 use Rattle.hazard_types.specs.declared.line.Line.{Line}
 use Rattle.event_life.specs.declared.life.Life.{Life}
 use Rattle.event_life.specs.Products.{put, has_rows, life_at, row_after, row_of}
-use Rattle.event_life.specs.Table.{left_of_life, life_after}
+use Rattle.event_life.specs.Table.{life_after_line, life_after_lawful_line}
 use Rattle.row_index.specs.declared.numbers.Number.{Number}
 use Rattle.row_index.specs.Holding.{told, AreHeld}
 use Rattle.row_index.specs.Listing.{list_at}
@@ -90,7 +90,7 @@ along_some e l (z ∷ zones) h = none (length (rows_along e l zones))
 
 -- a line that differs from another in its zone alone leaves the same life of the same
 
-left_alike : (a : Action) (life : Life) (l : Line) (z : Place) (t : ℕ) → left_of_life a life l t ≡ left_of_life a life (in_zone l z) t
+left_alike : (a : Action) (life : Life) (l : Line) (z : Place) (t : ℕ) → life_after_line a life l t ≡ life_after_line a life (in_zone l z) t
 left_alike New life l z t = refl
 left_alike Con life l z t = refl
 left_alike Exa life l z t = refl
@@ -102,8 +102,8 @@ left_alike Exp life l z t = refl
 left_alike Cor life l z t = refl
 left_alike Rou life l z t = refl
 
-pub after_alike : (o : Option Life) (l : Line) (z : Place) (t : ℕ) → life_after o l t ≡ life_after o (in_zone l z) t
-unfolding life_after
+pub after_alike : (o : Option Life) (l : Line) (z : Place) (t : ℕ) → life_after_lawful_line o l t ≡ life_after_lawful_line o (in_zone l z) t
+unfolding life_after_lawful_line
 after_alike None l z t = refl
 after_alike (Some life) l z t = left_alike l.action life l z t
 

@@ -8,7 +8,7 @@ use Rattle.std.specs.Ordering.{is_lt, is_eq, ordering_reverse}
 use Rattle.hazard_types.specs.declared.line.Line.{Line}
 use Rattle.row_index.specs.declared.seats.Seat.{Seat}
 use Rattle.row_index.specs.Risen.{is_behind, last_said, rising_with, seats_of, IsFree, Joins, Says}
-use Rattle.row_index.specs.Seating.{by_seat, has_seat, seat_said, seats_with}
+use Rattle.row_index.specs.Seating.{by_seat, has_seat, key_of_line, seats_with}
 use Rattle.row_index.specs.Telling.{Tells}
 use Rattle.row_index.proofs.Seated.{by_seat_total, by_seat_ties, counts_at, one_longer}
 use Rattle.row_index.proofs.Tests.{any_insert, or_false}
@@ -33,10 +33,10 @@ neither a b p q = rw (p, q) refl
 pub free-none : (last : Option Seat) (rising : List Seat) → rising ≡ [] → IsFree last rising
 free-none last rising none = λ s h. rw none refl
 
-pub free-more : (counts : Bool) (line : Line) (last : Option Seat) (rising : List Seat) → IsFree last rising → is_behind last (seat_said line) ≡ true → IsFree (last_said counts line last) (rising_with counts line rising)
+pub free-more : (counts : Bool) (line : Line) (last : Option Seat) (rising : List Seat) → IsFree last rising → is_behind last (key_of_line line) ≡ true → IsFree (last_said counts line last) (rising_with counts line rising)
 free-more false line last rising free behind = free
 free-more true line last rising free behind = λ q h.
-    let s = seat_said line in
+    let s = key_of_line line in
     let less = less_by (by_seat s q) h in
     list_any-append (is_at (by_seat q)) rising (s ∷ [])
     ∙ neither (list_any (is_at (by_seat q)) rising) (is_at (by_seat q) s) (free q (behind_last last s q behind less)) (not_there s q less)
@@ -63,7 +63,7 @@ last_turned false false false = refl
 pub said-behind : (counts : Bool) (line : Line) (rising others : List Seat) → Says (seats_of rising others) (seats_of (rising_with counts line rising) others) counts line
 said-behind false line rising others q = sym (or_false (list_any q (rising ++ others)))
 said-behind true line rising others q =
-    let s = seat_said line in
+    let s = key_of_line line in
     list_any-append q (rising ++ s ∷ []) others
     ∙ ap (λ (b : Bool). b || list_any q others) (list_any-append q rising (s ∷ []))
     ∙ last_turned (list_any q rising) (list_any q others) (q s)
@@ -75,16 +75,16 @@ or_swapped true false = refl
 or_swapped false true = refl
 or_swapped false false = refl
 
-with_line : (counts : Bool) (line : Line) (all : List Seat) (q : Seat → Bool) → list_any q (seats_with counts line all) ≡ (list_any q all || (counts && q (seat_said line)))
+with_line : (counts : Bool) (line : Line) (all : List Seat) (q : Seat → Bool) → list_any q (seats_with counts line all) ≡ (list_any q all || (counts && q (key_of_line line)))
 with_line false line all q = sym (or_false (list_any q all))
-with_line true line all q = any_insert by_seat by_seat_total by_seat_ties q (seat_said line) all ∙ or_swapped (q (seat_said line)) (list_any q all)
+with_line true line all q = any_insert by_seat by_seat_total by_seat_ties q (key_of_line line) all ∙ or_swapped (q (key_of_line line)) (list_any q all)
 
 pub said-among : (counts : Bool) (line : Line) (rising others all after next : List Seat) → Joins rising others all → after ≡ [] → next ≡ seats_with counts line all → Says (seats_of rising others) (seats_of after next) counts line
 said-among counts line rising others all after next joins none next_is q =
     ap (λ (seats : List Seat). list_any q (seats ++ next)) none
     ∙ ap (list_any q) next_is
     ∙ with_line counts line all q
-    ∙ ap (λ (b : Bool). b || (counts && q (seat_said line))) (joins q ∙ sym (list_any-append q rising others))
+    ∙ ap (λ (b : Bool). b || (counts && q (key_of_line line))) (joins q ∙ sym (list_any-append q rising others))
 
 -- one seat more comes among the others
 
@@ -109,11 +109,11 @@ join_next seats others next before i seat within is next_is sofar q =
 
 -- one line more
 pub told_next : (counts : Line → Bool) (seats next : List Seat) (lines : List Line) (i : ℕ) (line : Line) (counted : Bool) → i < length lines → line ≡ get_or lines i line → counted ≡ counts line → Says seats next counted line
-    → Tells counts seat_said seats (take i lines) → Tells counts seat_said next (take (i + 1) lines)
+    → Tells counts key_of_line seats (take i lines) → Tells counts key_of_line next (take (i + 1) lines)
 told_next counts seats next lines i line counted lt is counted_is says tells q =
     says q
-    ∙ ap (λ (b : Bool). list_any q seats || (b && q (seat_said line))) counted_is
-    ∙ ap (λ (b : Bool). b || (counts line && q (seat_said line))) (tells q)
-    ∙ ap (λ (b : Bool). list_any (counts_at counts q) (take i lines) || b) (sym (or_false (counts line && q (seat_said line))))
+    ∙ ap (λ (b : Bool). list_any q seats || (b && q (key_of_line line))) counted_is
+    ∙ ap (λ (b : Bool). b || (counts line && q (key_of_line line))) (tells q)
+    ∙ ap (λ (b : Bool). list_any (counts_at counts q) (take i lines) || b) (sym (or_false (counts line && q (key_of_line line))))
     ∙ sym (list_any-append (counts_at counts q) (take i lines) (line ∷ []))
     ∙ ap (λ (all : List Line). list_any (counts_at counts q) all) (sym (one_longer lines i line lt is))

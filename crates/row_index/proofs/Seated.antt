@@ -18,7 +18,7 @@ use Rattle.hazard_types.specs.declared.line.Row.{Row}
 use Rattle.hazard_types.proofs.Equality.{zone_one, zone_itself, event_one, event_itself}
 use Rattle.hazard_types.proofs.OrderLaws.{by_place_total, by_place_ties, by_event_total, by_event_ties}
 use Rattle.hazard_types.specs.Orders.{by_event}
-use Rattle.event_life.specs.Products.{by_key, placed, put, row_at, speaks_of, is_second}
+use Rattle.event_life.specs.Products.{by_key, placed, put, row_at, concerns, is_second}
 use Rattle.event_life.proofs.Keys.{key_exact, then_parts}
 use Rattle.event_life.proofs.Puts.{at_key}
 use Rattle.row_index.specs.declared.seats.Seat.{Seat}
@@ -27,7 +27,7 @@ use Rattle.row_index.specs.declared.seats.Spot.TheVariants.{Front, At, Back}
 use Rattle.row_index.specs.contracts.seats.SpotOrd.TheImpl as spot
 use Rattle.row_index.specs.contracts.seats.SeatOrd.TheImpl.Laws as seat_laws
 use Rattle.row_index.specs.Numbers.{is_in_zone}
-use Rattle.row_index.specs.Seating.{by_seat, seat_at, seat_of, AreSeated, seat_said, seats_with, speaks}
+use Rattle.row_index.specs.Seating.{by_seat, seat_at, seat_of, AreSeated, key_of_line, seats_with, speaks}
 use Rattle.row_index.specs.Telling.{Tells}
 use Rattle.row_index.proofs.Tests.{and_false, any_insert, any_same}
 
@@ -164,11 +164,11 @@ by_seat_ties a b h =
     λ i. record { zone = zone_is i; spot = spot_is i }
 
 abbrev pub counts_at : (Line → Bool) → (Seat → Bool) → Line → Bool
-counts_at counts q line = counts line && q (seat_said line)
+counts_at counts q line = counts line && q (key_of_line line)
 
 with_by : (b : Bool) (counts : Line → Bool) (q : Seat → Bool) (line : Line) (seats : List Seat) (lines : List Line) → counts line ≡ b → list_any q seats ≡ list_any (counts_at counts q) lines
-    → list_any q (seats_with b line seats) ≡ (list_any (counts_at counts q) lines || ((b && q (seat_said line)) || false))
-with_by true counts q line seats lines h tells = any_insert by_seat by_seat_total by_seat_ties q (seat_said line) seats ∙ ap (λ (b : Bool). q (seat_said line) || b) tells ∙ turned (q (seat_said line)) (list_any (counts_at counts q) lines)
+    → list_any q (seats_with b line seats) ≡ (list_any (counts_at counts q) lines || ((b && q (key_of_line line)) || false))
+with_by true counts q line seats lines h tells = any_insert by_seat by_seat_total by_seat_ties q (key_of_line line) seats ∙ ap (λ (b : Bool). q (key_of_line line) || b) tells ∙ turned (q (key_of_line line)) (list_any (counts_at counts q) lines)
   where
     turned : (a b : Bool) → (a || b) ≡ (b || (a || false))
     turned true true = refl
@@ -182,7 +182,7 @@ with_by false counts q line seats lines h tells = tells ∙ same (list_any (coun
     same false = refl
 
 -- one line more
-pub tells_more : (counts : Line → Bool) (line : Line) (seats : List Seat) (lines : List Line) → Tells counts seat_said seats lines → Tells counts seat_said (seats_with (counts line) line seats) (lines ++ line ∷ [])
+pub tells_more : (counts : Line → Bool) (line : Line) (seats : List Seat) (lines : List Line) → Tells counts key_of_line seats lines → Tells counts key_of_line (seats_with (counts line) line seats) (lines ++ line ∷ [])
 tells_more counts line seats lines tells q =
     with_by (counts line) counts q line seats lines refl (tells q) ∙ sym (list_any-append (counts_at counts q) lines (line ∷ []))
 
@@ -191,10 +191,10 @@ and_assoc true b c = refl
 and_assoc false b c = refl
 
 -- a second line's seat is among those of the lines before it
-pub second_told : (seats : List Seat) (earlier : List Line) (line : Line) → Tells speaks seat_said seats earlier → list_any (is_at (by_seat (seat_said line))) seats ≡ is_second earlier line
+pub second_told : (seats : List Seat) (earlier : List Line) (line : Line) → Tells speaks key_of_line seats earlier → list_any (is_at (by_seat (key_of_line line))) seats ≡ is_second earlier line
 second_told seats earlier line tells =
-    tells (is_at (by_seat (seat_said line)))
-    ∙ any_same (counts_at speaks (is_at (by_seat (seat_said line)))) (speaks_of line.event line.zone) earlier
+    tells (is_at (by_seat (key_of_line line)))
+    ∙ any_same (counts_at speaks (is_at (by_seat (key_of_line line)))) (concerns line.event line.zone) earlier
     (λ l. ap (λ (b : Bool). speaks l && b) (seat_tied line.event l.event line.zone l.zone) ∙ and_assoc (speaks l) (same_event l.event line.event) (same_zone l.zone line.zone))
 
 longer_by : (i : ℕ) (lines : List Line) (line : Line) → i < length lines → line ≡ get_or lines i line → take (suc i) lines ≡ take i lines ++ line ∷ []
@@ -215,7 +215,7 @@ cut_at lines i line within is =
 
 -- one line more of a list
 pub tells_next : (counts : Line → Bool) (seats next : List Seat) (lines : List Line) (i : ℕ) (line : Line) (counted : Bool) → i < length lines → line ≡ get_or lines i line → counted ≡ counts line → next ≡ seats_with counted line seats
-    → Tells counts seat_said seats (take i lines) → Tells counts seat_said next (take (i + 1) lines)
+    → Tells counts key_of_line seats (take i lines) → Tells counts key_of_line next (take (i + 1) lines)
 tells_next counts seats next lines i line counted lt is counted_is next_is tells =
-    subst (λ (all : List Line). Tells counts seat_said next all) (sym (one_longer lines i line lt is))
-    (subst (λ (all : List Seat). Tells counts seat_said all (take i lines ++ line ∷ [])) (sym (next_is ∙ ap (λ (b : Bool). seats_with b line seats) counted_is)) (tells_more counts line seats (take i lines) tells))
+    subst (λ (all : List Line). Tells counts key_of_line next all) (sym (one_longer lines i line lt is))
+    (subst (λ (all : List Seat). Tells counts key_of_line all (take i lines ++ line ∷ [])) (sym (next_is ∙ ap (λ (b : Bool). seats_with b line seats) counted_is)) (tells_more counts line seats (take i lines) tells))

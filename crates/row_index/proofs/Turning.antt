@@ -12,7 +12,7 @@ use Rattle.hazard_types.specs.declared.line.Row.{Row}
 use Rattle.hazard_types.proofs.Equality.{event_itself}
 use Rattle.event_life.specs.declared.life.Life.{Life}
 use Rattle.event_life.specs.Products.{by_key, put, row_at, row_after, row_of, lawful_of, put_all}
-use Rattle.event_life.specs.Table.{life_after}
+use Rattle.event_life.specs.Table.{life_after_lawful_line}
 use Rattle.event_life.proofs.AppendLemmas.{lawful_of-append, put_all-append}
 use Rattle.event_life.proofs.FreeOrder.{told_by_keys}
 use Rattle.event_life.proofs.Puts.{at_key, at_key-parts, row_at-put, put-sorted}
@@ -77,7 +77,7 @@ rows_in t (v ∷ verdicts) z = cond (leaves_row v) (row_with v.line.event z (lef
 -- they are what the lines leave that found these lives
 row_left : (rows : List Row) (t : ℕ) (z : Place) (v : Verdict) → IsFoundAt rows z v → row_after rows t (in_zone v.line z) ≡ row_with v.line.event z (left_by t v)
 row_left rows t z v found =
-    ap (λ (o : Option Life). row_of (in_zone v.line z) (life_after o (in_zone v.line z) t)) found
+    ap (λ (o : Option Life). row_of (in_zone v.line z) (life_after_lawful_line o (in_zone v.line z) t)) found
     ∙ ap (λ (l : Life). row_with v.line.event z l) (sym (after_alike v.found v.line z t))
 
 zone_left : (rows : List Row) (t : ℕ) (z : Place) (verdicts : List Verdict) (after : List Row) → AllByRecursion (IsFoundAt rows z) verdicts → put_all rows t (lawful_of (expand_at verdicts z)) after ≡ put_each (rows_in t verdicts z) after

@@ -7,7 +7,7 @@ use Rattle.hazard_types.specs.declared.hazard.Event.{Event}
 use Rattle.hazard_types.specs.declared.line.Line.{Line}
 use Rattle.row_index.specs.declared.seats.Seat.{Seat}
 use Rattle.row_index.specs.declared.verdicts.Part.{Part}
-use Rattle.row_index.specs.Seating.{seat_said, speaks}
+use Rattle.row_index.specs.Seating.{key_of_line, speaks}
 use Rattle.row_index.specs.Telling.{Tells}
 use Rattle.row_index.specs.Verdicts.{AreFirst}
 
@@ -37,11 +37,11 @@ AreEventsOf events lines = (q : Event → Bool) → list_any q events ≡ list_a
 
 -- no line is a second one behind those that spoke of these seats
 abbrev pub AreNew : List Seat → List Line → Type 0
-AreNew seats lines = (earlier : List Line) → Tells speaks seat_said seats earlier → AreFirst earlier lines
+AreNew seats lines = (earlier : List Line) → Tells speaks key_of_line seats earlier → AreFirst earlier lines
 
 -- the seats with those that lines speak of, in whatever order
 abbrev pub SaysAll : List Seat → List Seat → List Line → Type 0
-SaysAll old new lines = (q : Seat → Bool) → list_any q new ≡ (list_any q old || list_any (λ (l : Line). speaks l && q (seat_said l)) lines)
+SaysAll old new lines = (q : Seat → Bool) → list_any q new ≡ (list_any q old || list_any (λ (l : Line). speaks l && q (key_of_line l)) lines)
 
 -- lines spoke, none of them a second one
 pub record Spoke (old new : List Seat) (lines : List Line) : Type 0 where

@@ -4,7 +4,7 @@ use Rattle.std.specs.List.{list_any}
 use Rattle.std.specs.Ordering.{is_lt}
 use Rattle.hazard_types.specs.declared.line.Line.{Line}
 use Rattle.row_index.specs.declared.seats.Seat.{Seat}
-use Rattle.row_index.specs.Seating.{by_seat, seat_said, has_seat}
+use Rattle.row_index.specs.Seating.{by_seat, key_of_line, has_seat}
 
 -- all of them
 abbrev pub seats_of : List Seat → List Seat → List Seat
@@ -20,10 +20,10 @@ IsFree last rising = (s : Seat) → is_behind last s ≡ true → has_seat risin
 
 -- the seats that rose and the last of them, with that of a line where it counts
 abbrev pub rising_with : Bool → Line → List Seat → List Seat
-rising_with counts line rising = if counts then rising ++ seat_said line ∷ [] else rising
+rising_with counts line rising = if counts then rising ++ key_of_line line ∷ [] else rising
 
 abbrev pub last_said : Bool → Line → Option Seat → Option Seat
-last_said counts line last = if counts then Some (seat_said line) else last
+last_said counts line last = if counts then Some (key_of_line line) else last
 
 -- the seats of both lists, in whatever order
 abbrev pub Joins : List Seat → List Seat → List Seat → Type 0
@@ -31,4 +31,4 @@ Joins seats others all = (q : Seat → Bool) → list_any q all ≡ (list_any q 
 
 -- the seats with that of a line where it counts, in whatever order
 abbrev pub Says : List Seat → List Seat → Bool → Line → Type 0
-Says old new counts line = (q : Seat → Bool) → list_any q new ≡ (list_any q old || (counts && q (seat_said line)))
+Says old new counts line = (q : Seat → Bool) → list_any q new ≡ (list_any q old || (counts && q (key_of_line line)))

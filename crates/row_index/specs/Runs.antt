@@ -11,7 +11,7 @@ use Rattle.hazard_types.specs.declared.line.Row.{Row}
 use Rattle.event_life.specs.contracts.life.LifePartialEq.TheImpl as life
 use Rattle.event_life.specs.declared.life.Life.{Life}
 use Rattle.event_life.specs.Products.{row_of}
-use Rattle.event_life.specs.Table.{life_after}
+use Rattle.event_life.specs.Table.{life_after_lawful_line}
 use Rattle.row_index.specs.Listing.{list_at}
 use Rattle.row_index.specs.Sharing.{row_with}
 use Rattle.row_index.specs.Steps.{put_each}

@@ -30,8 +30,8 @@ abbrev pub AreSeated : List (Seat × Row) → Type 0
 AreSeated es = AllByRecursion (λ (e : Seat × Row). e.0 ≡ seat_of e.1) es
 
 -- the seat that a line speaks of
-abbrev pub seat_said : Line → Seat
-seat_said line = seat_at line.event line.zone
+abbrev pub key_of_line : Line → Seat
+key_of_line line = seat_at line.event line.zone
 
 -- a seat is among these
 abbrev pub has_seat : List Seat → Seat → Bool
@@ -47,4 +47,4 @@ upgrades line = is_upgrade line.action
 
 -- the seats with that of a line where it counts
 abbrev pub seats_with : Bool → Line → List Seat → List Seat
-seats_with counts line seats = if counts then insert_key by_seat seats (seat_said line) else seats
+seats_with counts line seats = if counts then insert_key by_seat seats (key_of_line line) else seats

@@ -19,10 +19,10 @@ use Rattle.event_life.specs.declared.life.Life.{Life}
 use Rattle.event_life.specs.Higher.{family_of, is_above}
 use Rattle.event_life.specs.Periods.{is_live, overlaps}
 use Rattle.event_life.specs.Table.{opened_period}
-use Rattle.event_life.specs.Products.{by_key, put, row_at, row_after, put_but_upgrades, has_rows, is_open, is_held, has_same, is_new, later_event, going_in}
+use Rattle.event_life.specs.Products.{by_key, put, row_at, row_after, rows_after_all_but_upgrades, has_rows, is_open, is_held, has_same, is_new, later_event, going_in}
 use Rattle.row_index.specs.declared.seats.Seat.{Seat}
 use Rattle.row_index.specs.Numbers.{is_in_zone}
-use Rattle.row_index.specs.Seating.{seat_at, seat_of, seat_said, has_seat, upgrades}
+use Rattle.row_index.specs.Seating.{seat_at, seat_of, key_of_line, has_seat, upgrades}
 use Rattle.row_index.specs.Telling.{Tells}
 
 -- of the events that are open the one of the latest year
@@ -72,8 +72,8 @@ has_same_period (Some old) life = period.eq-value.it old.period life.period && n
 -- What a product changes where a higher row is looked for: the rows that its lawful lines other than UPG leave, each put in turn,
 -- and the seats that its UPG lines speak of.
 pub record IsChanged (rows : List Row) (t : ℕ) (lines : List Line) (counted : List Row) (upgraded : List Seat) : Type 0 where
-  pub put : counted ≡ put_but_upgrades rows t [] lines []
-  pub said : Tells upgrades seat_said upgraded lines
+  pub put : counted ≡ rows_after_all_but_upgrades rows t [] lines []
+  pub said : Tells upgrades key_of_line upgraded lines
 
 -- some of the rows, in order, among which are all that are live and above a rank in the zone of this one, and overlap it
 pub record AreHigher (rows : List Row) (t : ℕ) (own : Row) (low : Option (Family × ℕ)) (higher : List Row) : Type 0 where

@@ -8,7 +8,7 @@ use Rattle.hazard_types.specs.declared.line.Row.{Row}
 use Rattle.event_life.specs.declared.life.Breach.{Breach}
 use Rattle.event_life.specs.declared.life.Life.{Life}
 use Rattle.event_life.specs.Products.{around_but_higher, breach_in, is_routine, is_second, is_upgrade, life_at}
-use Rattle.event_life.specs.Table.{breach_of_line, life_after}
+use Rattle.event_life.specs.Table.{breach_of_line, life_after_lawful_line}
 use Rattle.row_index.specs.Runs.{in_zone}
 use Rattle.row_index.specs.declared.verdicts.Part.{Part}
 use Rattle.row_index.specs.declared.verdicts.Run.{Run}
@@ -77,7 +77,7 @@ leaves_row v = not (is_routine v.line.action) && is_none v.breach
 
 -- the life that a lawful line leaves of the one that it found
 abbrev pub left_by : ℕ → Verdict → Life
-left_by t v = life_after v.found v.line t
+left_by t v = life_after_lawful_line v.found v.line t
 
 -- the verdict is a breach
 abbrev pub is_breach : Verdict → Bool

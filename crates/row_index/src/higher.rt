@@ -5,7 +5,7 @@ ghost use Rattle.std.specs.Map.{values_of};
 ghost use Rattle.event_life.specs.Higher.{family_of, is_above};
 ghost use Rattle.hazard_types.specs.Hazards.{facts_of};
 ghost use Rattle.row_index.specs.Numbers.{is_in_zone};
-ghost use Rattle.row_index.specs.Seating.{AreSeated, seat_said, upgrades};
+ghost use Rattle.row_index.specs.Seating.{AreSeated, key_of_line, upgrades};
 ghost use Rattle.row_index.specs.Steps.{rises_over, stays_over, still_over, is_free, is_overlapped};
 ghost use Rattle.row_index.specs.Telling.{Tells};
 
@@ -39,7 +39,7 @@ pub fn any_upgrades(lines: &[Line]) -> bool
 
 /// Returns the zones and events of the UPG lines.
 pub fn upgraded_by(alloc: Global, lines: &[Line]) -> Result<Seats, Oom>
-    ensures { IfOk result (λ seats. Tells upgrades seat_said seats.keys lines.now) }
+    ensures { IfOk result (λ seats. Tells upgrades key_of_line seats.keys lines.now) }
 {
     let mut seats = BTreeSet::new(alloc);
     for line in lines {

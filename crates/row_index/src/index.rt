@@ -7,7 +7,7 @@ ghost use Rattle.hazard_types.specs.declared.line.Row.{Row as RowValue};
 ghost use Rattle.std.specs.Map.{values_of};
 ghost use Rattle.event_life.specs.declared.life.Breach.TheVariants.{Twice};
 ghost use Rattle.event_life.specs.Higher.{family_of};
-ghost use Rattle.event_life.specs.Products.{put, row_at, row_after, is_open, going_in, event_of, has_rows, is_held, has_same, is_routine, is_upgrade, is_second, life_at, around_but_higher, has_higher, breach_in, judged, put_but_upgrades};
+ghost use Rattle.event_life.specs.Products.{put, row_at, row_after, is_open, going_in, event_of, has_rows, is_held, has_same, is_routine, is_upgrade, is_second, life_at, around_but_higher, has_higher, breach_in, judged, rows_after_all_but_upgrades};
 ghost use Rattle.event_life.specs.Seats.{may_count};
 ghost use Rattle.event_life.specs.Shown.{shown_at};
 ghost use Rattle.event_life.specs.Table.{breach_of_line};
@@ -416,7 +416,7 @@ impl RowIndex {
     /// Returns the rows that the lawful lines other than UPG leave.
     fn counted(&self, alloc: Global, t: Minute, lines: &[Line]) -> Result<Seated, Oom>
         ensures rows { IfOk result
-            (λ counted. values_of counted.entries ≡ put_but_upgrades self.now t [] lines.now []) }
+            (λ counted. values_of counted.entries ≡ rows_after_all_but_upgrades self.now t [] lines.now []) }
         ensures seated { IfOk result (λ counted. AreSeated counted.entries) }
     {
         let mut counted = BTreeMap::new(alloc);
@@ -464,7 +464,7 @@ impl RowIndex {
     fn counted_first(&self, alloc: Global, t: Minute, lines: &[Line]) -> Result<Seated, Oom>
         requires first { AreFirst [] lines.now }
         ensures rows { IfOk result
-            (λ counted. values_of counted.entries ≡ put_but_upgrades self.now t [] lines.now []) }
+            (λ counted. values_of counted.entries ≡ rows_after_all_but_upgrades self.now t [] lines.now []) }
         ensures seated { IfOk result (λ counted. AreSeated counted.entries) }
     {
         let mut counted = BTreeMap::new(alloc);

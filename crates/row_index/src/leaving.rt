@@ -8,14 +8,14 @@ ghost use Rattle.row_index.specs.Verdicts.{left_by, expand, AreApart, AreFound};
 
 use crate::held::put_held;
 use crate::index::RowIndex;
-use crate::verdicts::{Run, Verdict, life_left};
+use crate::verdicts::{Run, Verdict, life_after_verdict};
 use event_life::Breach;
 use hazard_types::{Line, List, Minute, Oom, Zone};
 use std::alloc::Global;
 
 impl RowIndex {
     /// Puts the rows that a lawful line leaves in `zones`.
-    fn put_left(
+    fn insert_rows_after(
         self,
         alloc: Global,
         t: Minute,
@@ -28,7 +28,7 @@ impl RowIndex {
         if zones.is_empty() {
             return Ok(self);
         }
-        let left = life_left(verdict, t);
+        let left = life_after_verdict(verdict, t);
         let RowIndex {
             mut held,
             mut events,
@@ -62,7 +62,7 @@ impl RowIndex {
             (λ index. index ≡ put_each (rows_of_line t zones.now verdict.now) self) }
     {
         if verdict.leaves_row() {
-            self.put_left(alloc, t, verdict, zones)
+            self.insert_rows_after(alloc, t, verdict, zones)
         } else {
             Ok(self)
         }

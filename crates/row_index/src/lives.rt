@@ -313,7 +313,7 @@ impl LifeMap {
     }
 
     /// Whether a zone has a life.
-    pub fn has_zones(&self) -> bool
+    pub fn has_any_zone(&self) -> bool
         ensures { result ≡ is_some (slice_get self.now 0) }
     {
         self.seats.first().is_some()

@@ -68,7 +68,7 @@ impl SharedRows {
         ensures { result ≡ is_first_of (option_map (λ e. e.1) (slice_get self.now 0)) event.now }
     {
         match &self.event {
-            Some(own) => self.lives.has_zones() && *own == *event,
+            Some(own) => self.lives.has_any_zone() && *own == *event,
             None => false,
         }
     }

@@ -1,6 +1,6 @@
 //! A set of the keys of a product's lines, which mostly come in ascending order.
 ghost use Rattle.std.specs.Prelude.{◌≡◌, true, [], IfOk, OnOk};
-ghost use Rattle.row_index.specs.Seating.{seat_said, has_seat};
+ghost use Rattle.row_index.specs.Seating.{key_of_line, has_seat};
 ghost use Rattle.row_index.specs.Risen.{is_behind, last_said, rising_with, seats_of, IsFree, Joins, Says};
 
 use crate::keys::add_key;
@@ -19,8 +19,8 @@ pub struct SeenKeys {
     pub others: Seats,
 }
 
-fn seat_said(line: &Line) -> Seat
-    ensures { result ≡ seat_said line.now }
+fn key_of_line(line: &Line) -> Seat
+    ensures { result ≡ key_of_line line.now }
 {
     let spot = Spot::At(EventKey { event: line.event });
     Seat {
@@ -70,8 +70,8 @@ fn push_ascending(
     ensures last { OnOk result (last.new ≡ last_said counts line.now last.old) }
 {
     if counts {
-        rising.push(seat_said(line))?;
-        *last = Some(seat_said(line));
+        rising.push(key_of_line(line))?;
+        *last = Some(key_of_line(line));
     }
     Ok(())
 }
@@ -91,9 +91,9 @@ impl SeenKeys {
     /// `mark_seen` for a key that is after the last of the ascending ones.
     fn mark_seen_ascending(&mut self, counts: bool, line: &Line) -> Result<bool, Oom>
         requires free { IsFree self.old.last self.old.rising.items }
-        requires behind { is_behind self.old.last (seat_said line.now) ≡ true }
+        requires behind { is_behind self.old.last (key_of_line line.now) ≡ true }
         ensures second { IfOk result (λ second. second
-            ≡ has_seat (seats_of self.old.rising.items self.old.others.keys) (seat_said line.now)) }
+            ≡ has_seat (seats_of self.old.rising.items self.old.others.keys) (key_of_line line.now)) }
         ensures said { OnOk result (Says (seats_of self.old.rising.items self.old.others.keys)
             (seats_of self.new.rising.items self.new.others.keys) counts line.now) }
         ensures free { OnOk result (IsFree self.new.last self.new.rising.items) }
@@ -106,7 +106,7 @@ impl SeenKeys {
     /// `mark_seen` for any other key: the ascending ones are moved to the set first.
     fn mark_seen_in_set(&mut self, counts: bool, line: &Line) -> Result<bool, Oom>
         ensures second { IfOk result (λ second. second
-            ≡ has_seat (seats_of self.old.rising.items self.old.others.keys) (seat_said line.now)) }
+            ≡ has_seat (seats_of self.old.rising.items self.old.others.keys) (key_of_line line.now)) }
         ensures said { OnOk result (Says (seats_of self.old.rising.items self.old.others.keys)
             (seats_of self.new.rising.items self.new.others.keys) counts line.now) }
         ensures free { OnOk result (IsFree self.new.last self.new.rising.items) }
@@ -121,12 +121,12 @@ impl SeenKeys {
     pub fn mark_seen(&mut self, counts: bool, line: &Line) -> Result<bool, Oom>
         requires { IsFree self.old.last self.old.rising.items }
         ensures second { IfOk result (λ second. second
-            ≡ has_seat (seats_of self.old.rising.items self.old.others.keys) (seat_said line.now)) }
+            ≡ has_seat (seats_of self.old.rising.items self.old.others.keys) (key_of_line line.now)) }
         ensures said { OnOk result (Says (seats_of self.old.rising.items self.old.others.keys)
             (seats_of self.new.rising.items self.new.others.keys) counts line.now) }
         ensures free { OnOk result (IsFree self.new.last self.new.rising.items) }
     {
-        if is_behind(&self.last, &seat_said(line)) {
+        if is_behind(&self.last, &key_of_line(line)) {
             self.mark_seen_ascending(counts, line)
         } else {
             self.mark_seen_in_set(counts, line)

@@ -146,7 +146,7 @@ pub fn expand(alloc: Global, runs: &[Run]) -> Result<List<(Line, Option<Breach>)
 }
 
 /// Adds the lines of a part in one zone to `out`.
-fn put_said(part: &Part<'_>, zone: &Zone, out: &mut Vec<Line>) -> Result<(), Oom>
+fn push_lines_of_part(part: &Part<'_>, zone: &Zone, out: &mut Vec<Line>) -> Result<(), Oom>
     ensures { OnOk result (out.new.items ≡ out.old.items ++ said_at part.now.lines zone.now) }
 {
     for line in part.lines.as_slice() {
@@ -160,7 +160,7 @@ fn put_part(part: &Part<'_>, out: &mut Vec<Line>) -> Result<(), Oom>
     ensures { OnOk result (out.new.items ≡ out.old.items ++ said_in part.now) }
 {
     for zone in part.zones {
-        put_said(part, zone, out)?;
+        push_lines_of_part(part, zone, out)?;
     }
     Ok(())
 }
@@ -177,7 +177,7 @@ pub fn lines_in(alloc: Global, parts: &[Part<'_>]) -> Result<List<Line>, Oom>
 }
 
 /// Returns the life that a lawful line leaves, given the one that it found.
-pub fn life_left(verdict: &Verdict, t: Minute) -> Life
+pub fn life_after_verdict(verdict: &Verdict, t: Minute) -> Life
     ensures { result ≡ left_by t verdict.now }
 {
     let line = &verdict.line;

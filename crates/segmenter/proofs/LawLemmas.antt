@@ -75,8 +75,8 @@ by_segment_total : IsTotalOrder by_segment
 by_segment_total = then_total (on_total first_zone (options_total by_place_total)) (on_total first_event (options_total by_event_total))
 
 module _ (lines : List Line) where
-  zone_in : (ss ts : List Segment) → AreSegments lines ss → AreSegments lines ts → (s t : Segment) → Has ss s → Has ts t → s.lines ≡ t.lines → (z : Place) → Has s.zones z → Has t.zones z
-  zone_in ss ts p q s t mine other same z zone =
+  parse_zone : (ss ts : List Segment) → AreSegments lines ss → AreSegments lines ts → (s t : Segment) → Has ss s → Has ts t → s.lines ≡ t.lines → (z : Place) → Has s.zones z → Has t.zones z
+  parse_zone ss ts p q s t mine other same z zone =
       let g = (p.zones s mine z).0 zone in
       (q.zones t other z).1 (g.0, g.1, g.2 ∙ same)
 
@@ -90,8 +90,8 @@ module _ (lines : List Line) where
       let zones_are = same_list by_place by_place_total t.0.zones s.zones
       (all_at (λ (x : Segment). IsStrictlySortedBy by_place x.zones) ts t.0 q.sorted t.1)
       (all_at (λ (x : Segment). IsStrictlySortedBy by_place x.zones) ss s p.sorted mine)
-      (zone_in ts ss q p t.0 s t.1 mine lines_are)
-      (zone_in ss ts p q s t.0 mine t.1 (sym lines_are)) in
+      (parse_zone ts ss q p t.0 s t.1 mine lines_are)
+      (parse_zone ss ts p q s t.0 mine t.1 (sym lines_are)) in
       let same : t.0 ≡ s = λ i. record { zones = zones_are i; lines = lines_are i } in
       subst (λ (x : Segment). Has ts x) same t.1
 

@@ -3,7 +3,7 @@ use Rattle.std.specs.Prelude.{ℕ, Bool, List, [], ◌∷◌, Option, Some, None
 use Rattle.std.specs.List.{filter}
 use Rattle.std.specs.declared.cmp.Ordering.{Ordering}
 use Rattle.std.specs.Ordering.{nat_cmp, on, then_cmp, is_lt}
-use Rattle.hazard_types.specs.Names.{is_flood}
+use Rattle.hazard_types.specs.Names.{is_fl_phenomenon}
 use Rattle.hazard_types.specs.Orders.{by_event}
 use Rattle.hazard_types.specs.declared.codes.Action.{Action}
 use Rattle.hazard_types.specs.declared.codes.Action.TheVariants.{New, Con, Exa, Ext, Exb, Upg, Can, Exp, Cor, Rou}
@@ -15,7 +15,7 @@ use Rattle.segmenter.specs.contracts.groups.GroupPartialEq.TheImpl as group
 
 -- the event that has a group of its own
 abbrev pub flood_event : Event → Option Event
-flood_event e = if is_flood e.hazard then Some e else None
+flood_event e = if is_fl_phenomenon e.hazard then Some e else None
 
 -- the zone of a line, and its event where that has a group of its own
 abbrev pub group_of : Line → Group

@@ -5,7 +5,7 @@ ghost use Rattle.segmenter.specs.Groups.{flood_event, group_of, without_zone, sa
 ghost use Rattle.segmenter.specs.Laws.{AreInOrder};
 ghost use Rattle.segmenter.specs.Steps.{put, groups_of, groups_view};
 
-use hazard_types::{Action, Event, Line, Oom, SegLine, Zone, is_flood};
+use hazard_types::{Action, Event, Line, Oom, SegLine, Zone, is_fl_phenomenon};
 use indexmap::IndexMap;
 use std::alloc::Global;
 use std::cmp::Ordering;
@@ -52,7 +52,7 @@ pub type Groups = IndexMap<Group, Ordered>;
 fn flood_event(event: &Event) -> Option<Event>
     ensures { result ≡ flood_event event.now }
 {
-    if is_flood(&event.hazard) {
+    if is_fl_phenomenon(&event.hazard) {
         Some(*event)
     } else {
         None

@@ -95,9 +95,9 @@ abbrev pub options_given : List (List ℕ) → Option Serving
 options_given words = three_given (first_given words) words
 
 -- `serve`, and `--port N`, `--workers W` and `--connections M` in any order, each once
-unfoldable pub serving_of : List (List ℕ) → Option Serving
-serving_of [] = None
-serving_of (command ∷ words) = if bytes_eq command (codes "serve") then options_given words else None
+unfoldable pub parse_serve_args : List (List ℕ) → Option Serving
+parse_serve_args [] = None
+parse_serve_args (command ∷ words) = if bytes_eq command (codes "serve") then options_given words else None
 
 -- its numbers are in their ranges
 pub record IsServing (s : Serving) : Type 0 where

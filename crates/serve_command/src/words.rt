@@ -2,7 +2,7 @@
 ghost use Rattle.std.specs.Prelude.{◌≡◌, ◌≤◌, IfSome, length};
 ghost use Rattle.serve_command.specs.declared.words.Given.TheVariants.{Port, Workers, Connections};
 ghost use Rattle.serve_command.specs.Words.{IsGiven, IsServing, first_given, joined_by, named_by};
-ghost use Rattle.serve_command.specs.Words.{one_of, options_given, serving_given, serving_of};
+ghost use Rattle.serve_command.specs.Words.{one_of, options_given, serving_given, parse_serve_args};
 ghost use Rattle.serve_command.specs.Words.{connections_in, connections_of, port_in};
 ghost use Rattle.serve_command.specs.Words.{port_of, workers_in, workers_of};
 
@@ -202,9 +202,9 @@ fn options_given(words: &[Text]) -> Option<Serving>
 /// exactly if they are something else.
 ///
 /// docs/SERVING.md, "Start it".
-#[tactic(auto, unfolding(crate::specs::Words::serving_of))]
-pub fn serving_of(words: &List<Text>) -> Option<Serving>
-    ensures value { result ≡ serving_of words.now }
+#[tactic(auto, unfolding(crate::specs::Words::parse_serve_args))]
+pub fn parse_serve_args(words: &List<Text>) -> Option<Serving>
+    ensures value { result ≡ parse_serve_args words.now }
     ensures form { IfSome result IsServing }
 {
     match words.as_slice() {

@@ -19,7 +19,7 @@ use Rattle.event_life.specs.Table.{first_of, on_nothing, breach_of_line}
 use Rattle.event_life.specs.declared.life.Around.{Around}
 use Rattle.event_life.specs.declared.life.Breach.{Breach}
 use Rattle.event_life.specs.declared.life.Life.{Life}
-use Rattle.event_life.specs.Products.{Product, by_key, put, row_at, life_at, life_of, row_after, is_routine, is_second, around_of, breach_in, speaks_of, judged_from, judged, lawful_of, put_all, lines_of, rows_after, rows_with, rows_of}
+use Rattle.event_life.specs.Products.{Product, by_key, put, row_at, life_at, life_of, row_after, is_routine, is_second, around_of, breach_in, concerns, judged_from, judged, lawful_of, put_all, lines_of, rows_after, rows_with, rows_of}
 use Rattle.event_life.proofs.Members.{find_in}
 use Rattle.event_life.proofs.Puts.{at_key, at_key-parts, rows_after-sorted, put_all-sorted}
 use Rattle.event_life.proofs.Spoken.{breach_in-second, breach_in-first, AreTouching, lawful_of-touches, lawful_first, spoken, row_by_last, row_at-put_all, row_at-rows_after}
@@ -66,7 +66,7 @@ touching_next : (xs : List Line) (y : Line) (ys : List Line) → AreTouching (xs
 touching_next [] y ys h = h.0
 touching_next (x ∷ xs) y ys h = touching_next xs y ys h.1
 
-speaks_itself : (line : Line) → is_routine line.action ≡ false → speaks_of line.event line.zone line ≡ true
+speaks_itself : (line : Line) → is_routine line.action ≡ false → concerns line.event line.zone line ≡ true
 speaks_itself line h = rw (h, event_itself line.event, zone_itself line.zone) refl
 
 filter_first : (p : Line → Bool) (line : Line) (lines : List Line) → p line ≡ true → filter p (line ∷ lines) ≡ line ∷ filter p lines
@@ -80,7 +80,7 @@ module _ (rows : List Row) (t : ℕ) (all : List Line) where
   unmoved : (done : List Line) (line : Line) (lines : List Line) → lawful ≡ done ++ line ∷ lines → row_at (put_all rows t done rows) line.event line.zone ≡ row_at rows line.event line.zone
   unmoved done line lines is =
       let touch : AreTouching (done ++ line ∷ lines) = subst (λ (ls : List Line). AreTouching ls) is (lawful_of-touches (judged rows t all)) in
-      let test : Line → Bool = speaks_of line.event line.zone in
+      let test : Line → Bool = concerns line.event line.zone in
       let first = spoken rows t all line.event line.zone [] all in
       let own = filter_first test line lines (speaks_itself line (touching_next done line lines touch)) in
       let parts : filter test lawful ≡ filter test done ++ line ∷ filter test lines = ap (filter test) is ∙ filter_both test done (line ∷ lines) ∙ ap (λ (ls : List Line). filter test done ++ ls) own in

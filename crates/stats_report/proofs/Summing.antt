@@ -12,7 +12,7 @@ use Rattle.hazard_types.specs.declared.line.Row.{Row}
 use Rattle.event_life.specs.declared.life.Life.{Life}
 use Rattle.event_life.specs.Lives.{opens, ends}
 use Rattle.event_life.specs.Products.{by_key, life_of}
-use Rattle.event_life.specs.Table.{life_after, left_of_life}
+use Rattle.event_life.specs.Table.{life_after_lawful_line, life_after_line}
 use Rattle.event_life.proofs.Puts.{all_above, none_above}
 use Rattle.product_decoder.specs.Openings.{opening_of, openings_in}
 use Rattle.product_decoder.specs.declared.types.Opening.{Opening}
@@ -125,7 +125,7 @@ module _ (m : Moment) (line : Line) where
   left_by life from = cond life.ended 0 (cut_at m.stamp life.period.end - max from life.period.begin)
 
   by_action : (a : Action) (life : Life) (from : ℕ) → m.issue ≤ from
-      → spell_left from (cond (ends a) (record { start = 0; stop = 0 }) (record { start = begin_printed line m.issue; stop = cut_at m.stamp line.end })) ≡ left_by (left_of_life a life line m.issue) from
+      → spell_left from (cond (ends a) (record { start = 0; stop = 0 }) (record { start = begin_printed line m.issue; stop = cut_at m.stamp line.end })) ≡ left_by (life_after_line a life line m.issue) from
   by_action New life from h = refl
   by_action Exa life from h = refl
   by_action Exb life from h = refl
@@ -138,7 +138,7 @@ module _ (m : Moment) (line : Line) where
   by_action Upg life from h = omega arith
 
   pub left_after : (before : Option Row) (from : ℕ) → m.issue ≤ from → (before ≡ None → ends line.action ≡ false) → spell_left from (spell_after m line) ≡ minutes_left m.stamp from (Some (row_left before line m.issue))
-  unfolding row_left life_after
+  unfolding row_left life_after_lawful_line
   left_after None from h going = rw (going refl) refl
   left_after (Some r) from h going = by_action line.action (life_of r) from h
 

@@ -11,7 +11,7 @@ use Rattle.hazard_types.specs.declared.hazard.Event.{Event}
 use Rattle.hazard_types.specs.declared.line.Line.{Line}
 use Rattle.hazard_types.specs.declared.line.Row.{Row}
 use Rattle.event_life.specs.Products.{Product, life_of, row_of, rows_of}
-use Rattle.event_life.specs.Table.{life_after}
+use Rattle.event_life.specs.Table.{life_after_lawful_line}
 use Rattle.stats_report.specs.Minutes.{minutes_of, minutes_left}
 
 -- an event in a zone
@@ -72,7 +72,7 @@ minutes_counted (Some c) = c.minutes
 
 -- the row that a line leaves
 unfoldable pub row_left : Option Row → Line → ℕ → Row
-row_left before line t = row_of line (life_after (option_map life_of before) line t)
+row_left before line t = row_of line (life_after_lawful_line (option_map life_of before) line t)
 
 -- the minutes from one on are those that the line leaves
 abbrev pub counted_after : ℕ → ℕ → ℕ → Line → Option Counted → Counted

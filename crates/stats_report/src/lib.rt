@@ -16,4 +16,4 @@ mod tally;
 
 pub use laws::{minutes_add_up, the_greatest_issue_minute_governs};
 pub use run::{run_program, stats_run};
-pub use stats::stats_within;
+pub use stats::run_stats;

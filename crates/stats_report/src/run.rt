@@ -6,7 +6,7 @@ ghost use Rattle.program_ends.specs.Lines.{most_bytes};
 ghost use Rattle.program_outside.specs.Starts.{IsUsageShown, Runs};
 ghost use Rattle.stats_report.specs.Runs.{DoesAsAsked};
 
-use crate::stats::stats_within;
+use crate::stats::run_stats;
 use byte_streams::{Sink, Source};
 use hazard_types::{List, Text};
 use program_ends::{End, LIMIT};
@@ -29,7 +29,7 @@ pub fn stats_run<S: Source, K: Sink>(
         (streams (S.inflow input.old) (K.outflow output.old))
         (streams (S.inflow input.new) (K.outflow output.new)) result }
 {
-    stats_within(alloc, words, input, output, LIMIT)
+    run_stats(alloc, words, input, output, LIMIT)
 }
 
 /// Does what the words after the program's name ask for. If memory runs out for the words, the

@@ -45,7 +45,7 @@ fn tell_stats<S: Source, K: Sink>(
 /// returns the exit status.
 ///
 /// Source: docs/STATISTICS.md, "Exit statuses".
-pub fn stats_within<S: Source, K: Sink>(
+pub fn run_stats<S: Source, K: Sink>(
     alloc: Global,
     words: &List<Text>,
     input: &mut S,

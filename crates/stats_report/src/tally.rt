@@ -60,7 +60,7 @@ impl Tally {
     }
 
     /// Takes a product without a fault.
-    fn take_product(&mut self, alloc: Global, asked: &Asked, frame: &Frame) -> Result<(), Oom>
+    fn add_product_lines(&mut self, alloc: Global, asked: &Asked, frame: &Frame) -> Result<(), Oom>
         ensures { OnOk result (TakesProduct asked.now (decoded_of frame.now) self.old self.new) }
     {
         let issue = frame.issue;
@@ -86,11 +86,11 @@ impl Tally {
     }
 
     /// Takes a product, or counts its fault, apart from the count of all products.
-    fn take_reading(&mut self, alloc: Global, asked: &Asked, reading: &Reading) -> Result<(), Oom>
+    fn add_reading(&mut self, alloc: Global, asked: &Asked, reading: &Reading) -> Result<(), Oom>
         ensures { OnOk result (TakesReading asked.now (said_of reading.now) self.old self.new) }
     {
         match reading {
-            Ok(frame) => self.take_product(alloc, asked, frame),
+            Ok(frame) => self.add_product_lines(alloc, asked, frame),
             Err(_fault) => self.count_fault(),
         }
     }
@@ -105,6 +105,6 @@ impl Tally {
         ensures { OnOk result (Counts asked.now (said_of reading.now) self.old self.new) }
     {
         self.count += 1;
-        self.take_reading(alloc, asked, reading)
+        self.add_reading(alloc, asked, reading)
     }
 }

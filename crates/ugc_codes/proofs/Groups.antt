@@ -19,7 +19,7 @@ use Rattle.hazard_types.proofs.DayTexts.{day_stamp_back, day_stamp_read}
 use Rattle.ugc_codes.specs.declared.span.Span.{Span}
 use Rattle.ugc_codes.specs.declared.read.Refused.{Refused}
 use Rattle.ugc_codes.specs.Codes.{three_of, full_code, short_code, code_of, run_of, single_of, day_of, group_of, is_run, or_refused, run_to, three_at}
-use Rattle.hazard_types.specs.Digits.{day_stamp_in}
+use Rattle.hazard_types.specs.Digits.{parse_day_stamp}
 use Rattle.hazard_types.specs.Names.{kind_at}
 use Rattle.ugc_codes.specs.Faults.{IsBackwards, IsNoGroup}
 use Rattle.ugc_codes.specs.Grammar.{numbered, IsSpan, run_end, full_text, short_text, Follows, Spells, HasCode}
@@ -251,11 +251,11 @@ single_back before text p n good h =
 pub same_ok : (g h : Group) → ◌≡◌ {A = Result Group Refused} (Ok g) (Ok h) → g ≡ h
 same_ok g h e = cc e
 
-day_steps : (before : Option Place) (text : List ℕ) (g : Group) → day_of before text ≡ Ok g → (p : Place) × (d : DayStamp) × (before ≡ Some p) × (day_stamp_in text ≡ Some d) × (g ≡ Expiry d)
+day_steps : (before : Option Place) (text : List ℕ) (g : Group) → day_of before text ≡ Ok g → (p : Place) × (d : DayStamp) × (before ≡ Some p) × (parse_day_stamp text ≡ Some d) × (g ≡ Expiry d)
 unfolding day_of
 day_steps before text g h =
-    let a = or_refused_ok before (λ _. or_refused (day_stamp_in text) (λ d. Ok (Expiry d))) g h in
-    let b = or_refused_ok (day_stamp_in text) (λ d. Ok (Expiry d)) g a.2 in
+    let a = or_refused_ok before (λ _. or_refused (parse_day_stamp text) (λ d. Ok (Expiry d))) g h in
+    let b = or_refused_ok (parse_day_stamp text) (λ d. Ok (Expiry d)) g a.2 in
     (a.0, b.0, a.1, b.1, sym (same_ok (Expiry b.0) g b.2))
 
 day_no_zones : (before : Option Place) (text : List ℕ) (p : Place) (n : ℕ) → day_of before text ≡ Ok (Zones p n) → ⊥
@@ -398,8 +398,8 @@ single_range before text h = let a = refused_steps (code_of before text) (λ p. 
 day_range : (before : Option Place) (text : List ℕ) → day_of before text ≡ Err NoRange → ⊥
 unfolding day_of
 day_range before text h =
-    let a = refused_steps before (λ _. or_refused (day_stamp_in text) (λ d. Ok (Expiry d))) h in
-    let b = refused_steps (day_stamp_in text) (λ d. Ok (Expiry d)) a.2 in
+    let a = refused_steps before (λ _. or_refused (parse_day_stamp text) (λ d. Ok (Expiry d))) h in
+    let b = refused_steps (parse_day_stamp text) (λ d. Ok (Expiry d)) a.2 in
     ok_no_range _ b.2
 
 pub range_back : (before : Option Place) (text : List ℕ) → IsBefore before → group_of before text ≡ Err NoRange → IsBackwards before text

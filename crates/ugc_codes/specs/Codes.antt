@@ -2,7 +2,7 @@
 use Rattle.std.specs.Prelude.{ℕ, ◌+◌, ◌*◌, ◌-◌, ◌==◌, ◌&&◌, Bool, nat_le, nat_lt, List, [], ◌∷◌, length, slice_index, take, Option, Some, None, Result, Ok, Err, if◌then◌else◌, option_and_then, is_some}
 use Rattle.std.specs.Prelude.{◌≤◌}
 use Rattle.hazard_types.specs.Calendar.{is_digit}
-use Rattle.hazard_types.specs.Digits.{day_stamp_in}
+use Rattle.hazard_types.specs.Digits.{parse_day_stamp}
 use Rattle.hazard_types.specs.Names.{kind_at}
 use Rattle.hazard_types.specs.Places.{Place, are_letters, is_number}
 use Rattle.hazard_types.specs.declared.zone.Kind.{Kind}
@@ -59,7 +59,7 @@ single_of before text = or_refused (code_of before text) (λ p. Ok (Zones p p.nu
 
 -- an expiry, behind a code
 unfoldable pub day_of : Option Place → List ℕ → Result Group Refused
-day_of before text = or_refused before (λ _. or_refused (day_stamp_in text) (λ d. Ok (Expiry d)))
+day_of before text = or_refused before (λ _. or_refused (parse_day_stamp text) (λ d. Ok (Expiry d)))
 
 -- > before the last three bytes
 abbrev pub is_run : List ℕ → Bool

@@ -10,11 +10,11 @@ ghost use Rattle.hazard_types.specs.Digits.{is_day_stamp, day_text};
 ghost use Rattle.ugc_codes.specs.Faults.{FirstFault};
 ghost use Rattle.ugc_codes.specs.Codes.{EndsInRange, three_of, full_code, short_code, code_of, run_to, run_of, single_of, day_of, group_of};
 ghost use Rattle.hazard_types.specs.Names.{kind_at};
-ghost use Rattle.hazard_types.specs.Digits.{day_stamp_in};
+ghost use Rattle.hazard_types.specs.Digits.{parse_day_stamp};
 ghost use Rattle.ugc_codes.specs.Reading.{ugc_of, fault_at, Closes};
 
 use crate::zone_set::ZoneSet;
-use hazard_types::{DayStamp, Kind, List, Or, Zone, day_stamp_in};
+use hazard_types::{DayStamp, Kind, List, Or, Zone, parse_day_stamp};
 use std::alloc::Global;
 use thiserror::Error;
 
@@ -156,7 +156,7 @@ fn day_of(before: &Option<Zone>, text: &[u8]) -> Result<Group, Refused>
     if before.is_none() {
         return Err(Refused::NoCode);
     }
-    match day_stamp_in(text) {
+    match parse_day_stamp(text) {
         Some(expiry) => Ok(Group::Expiry(expiry)),
         None => Err(Refused::NoCode),
     }

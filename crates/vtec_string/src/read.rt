@@ -5,7 +5,7 @@ ghost use Rattle.vtec_string.specs.Columns.{separators, has_columns, office_at, 
 
 use crate::columns::{ACTION, BEGIN, CLASS, END, LENGTH, NUMBER, OFFICE, PHENOMENON, SIGNIFICANCE};
 use hazard_types::{
-    Action, Class, Hazard, Minute, Phen, Sig, Vtec, are_name_bytes, significance_in, time_in,
+    Action, Class, Hazard, Minute, Phen, Sig, Vtec, are_name_bytes, parse_significance, time_in,
 };
 
 /// Returns the office, or `None` if a character is not A-Z or 0-9.
@@ -102,7 +102,7 @@ fn values_of(bytes: &[u8]) -> Option<Vtec>
         Action::from_code(&bytes[ACTION]),
         office_of(&bytes[OFFICE]),
         phenomenon_of(&bytes[PHENOMENON]),
-        significance_in(&bytes[SIGNIFICANCE..SIGNIFICANCE + 1]),
+        parse_significance(&bytes[SIGNIFICANCE..SIGNIFICANCE + 1]),
         number_of(&bytes[NUMBER]),
         time_in(&bytes[BEGIN]),
         time_in(&bytes[END]),

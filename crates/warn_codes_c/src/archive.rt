@@ -44,7 +44,7 @@ impl Archive {
     }
 
     /// Takes the text of a product. After 4,294,967,295 products it is out of memory.
-    fn take_text(&mut self, alloc: Global, text: &[u8]) -> Result<(), Oom>
+    fn add_text(&mut self, alloc: Global, text: &[u8]) -> Result<(), Oom>
         ensures adds { OnOk result (Adds self.old (decode text.now) self.new) }
         ensures feed { self.new.feed ≡ self.old.feed }
     {
@@ -71,7 +71,7 @@ impl Archive {
     {
         match self.feed.take(alloc)? {
             Some(text) => {
-                self.take_text(alloc, text.as_slice())?;
+                self.add_text(alloc, text.as_slice())?;
                 Ok(true)
             }
             None => Ok(false),

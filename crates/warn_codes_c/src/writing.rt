@@ -11,7 +11,7 @@ use crate::fields::{FloodFields, VtecFields};
 use crate::status::{BAD_VALUE, OK};
 use hazard_types::{
     Action, Cause, Class, Flood, Hazard, Minute, Phen, Severity, Sig, Status, Vtec, is_location,
-    is_office, significance_in,
+    is_office, parse_significance,
 };
 use hvtec_string::hvtec_text;
 use vtec_string::vtec_text;
@@ -83,7 +83,7 @@ fn vtec_of(fields: &VtecFields) -> Option<Vtec>
         Action::from_code(&action),
         office_of(fields.office),
         Phen::new(fields.phenomenon),
-        significance_in(&[fields.significance]),
+        parse_significance(&[fields.significance]),
         number_of(fields.number),
         time_of(fields.begin),
         time_of(fields.end),

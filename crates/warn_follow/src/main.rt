@@ -3,9 +3,9 @@
 #![tactic(auto)]
 
 use follow_links::{HostNetwork, run_program};
-use program_outside::outside_of;
+use program_outside::host_io;
 use std::process::ExitCode;
 
 fn main(rt: HostRuntime) -> ExitCode {
-    run_program(&mut outside_of(&rt), &mut HostNetwork::new(&rt))
+    run_program(&mut host_io(&rt), &mut HostNetwork::new(&rt))
 }

@@ -77,7 +77,7 @@ fn put_length(alloc: Global, out: &mut Text, count: usize) -> Result<(), Oom>
     out.extend(b"\r\n")
 }
 
-fn put_closing(out: &mut Text, last: bool) -> Result<(), Oom>
+fn push_connection_close(out: &mut Text, last: bool) -> Result<(), Oom>
     ensures { OnOk result (out.new ≡ out.old ++ closing last) }
 {
     if last {
@@ -107,7 +107,7 @@ pub fn write_answer(
     put_status(alloc, &mut text, status)?;
     put_type(&mut text, kind)?;
     put_length(alloc, &mut text, body.len())?;
-    put_closing(&mut text, last)?;
+    push_connection_close(&mut text, last)?;
     text.extend(b"\r\n")?;
     text.extend(body.as_slice())?;
     Ok(text)

@@ -24,7 +24,7 @@ use Rattle.desk_program.specs.Runs as alone
 use Rattle.desk_program.specs.Words.{command_of}
 use Rattle.desk_program.specs.declared.words.Command.{Command}
 use Rattle.desk_program.specs.declared.words.Command.TheVariants as command
-use Rattle.serve_command.specs.Words.{serving_of}
+use Rattle.serve_command.specs.Words.{parse_serve_args}
 use Rattle.serve_command.specs.declared.words.Serving.{Serving}
 use Rattle.office_journal.proofs.Fronts.{entries_behind}
 use Rattle.warn_main.specs.Offices.{Office, office_by, office_exported, office_if, office_in, office_served, office_shown, office_upgraded, unchanged}
@@ -263,7 +263,7 @@ module _ {D C : Type 0} (d : Disks D) (before after : World D C) where
     pub promised : RequestsStandOnce → DoesAsAsked d k words limit before after status → Promise d k words limit before after status
     promised stand_once done = record {
       done = done;
-      lawful = λ other. lawful_in stand_once k limit status words other (serving_of words) done.run;
-      kept = kept_in k limit status words (serving_of words) done.run;
-      unopened = λ none. untouched_in (serving_of words) done.run none;
+      lawful = λ other. lawful_in stand_once k limit status words other (parse_serve_args words) done.run;
+      kept = kept_in k limit status words (parse_serve_args words) done.run;
+      unopened = λ none. untouched_in (parse_serve_args words) done.run none;
     }

@@ -5,7 +5,7 @@ use Rattle.program_outside.specs.declared.files.Access.TheVariants.{Reads, Write
 use Rattle.desk_program.specs.Words.{command_of}
 use Rattle.desk_program.specs.declared.words.Command.{Command}
 use Rattle.desk_program.specs.declared.words.Command.TheVariants.{Init, Script, Upgrade}
-use Rattle.serve_command.specs.Words.{serving_of}
+use Rattle.serve_command.specs.Words.{parse_serve_args}
 use Rattle.serve_command.specs.declared.words.Serving.{Serving}
 
 -- a command that is no `serve`: these write, the others do not
@@ -21,4 +21,4 @@ access_in None command = access_by command
 
 -- `init`, `script`, `upgrade` and `serve` write; all other words only read, if that
 abbrev pub access_of : List (List ℕ) → Access
-access_of words = access_in (serving_of words) (command_of words)
+access_of words = access_in (parse_serve_args words) (command_of words)

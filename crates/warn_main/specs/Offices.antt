@@ -18,7 +18,7 @@ use Rattle.desk_program.specs.Words.{command_of}
 use Rattle.desk_program.specs.Worlds as alone_worlds
 use Rattle.desk_program.specs.declared.words.Command.{Command}
 use Rattle.desk_program.specs.declared.words.Command.TheVariants as command
-use Rattle.serve_command.specs.Words.{serving_of}
+use Rattle.serve_command.specs.Words.{parse_serve_args}
 use Rattle.serve_command.specs.declared.words.Serving.{Serving}
 use Rattle.warn_main.specs.Runs.{DoesAsAsked, DoesServe, SamePort}
 use Rattle.warn_main.specs.Worlds.{World, without_port}
@@ -115,4 +115,4 @@ module _ {D C : Type 0} (d : Disks D) (k : Clocks C) (before after : World D C) 
 
     -- the office that the run opened from its disk's journal, if it opened one
     abbrev pub office_of : DoesAsAsked d k words limit before after status → Option (Office d)
-    office_of done = office_in (serving_of words) done.run
+    office_of done = office_in (parse_serve_args words) done.run

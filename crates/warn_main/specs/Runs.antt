@@ -8,7 +8,7 @@ use Rattle.desk_program.specs.Runs.{IsEndOfItsOwn}
 use Rattle.desk_program.specs.Runs as alone
 use Rattle.desk_program.specs.Words.{command_of}
 use Rattle.serve_command.specs.Serving.{Serves}
-use Rattle.serve_command.specs.Words.{serving_of}
+use Rattle.serve_command.specs.Words.{parse_serve_args}
 use Rattle.serve_command.specs.declared.words.Serving.{Serving}
 use Rattle.warn_main.specs.Worlds.{World, without_port}
 
@@ -29,7 +29,7 @@ module _ {D C : Type 0} (d : Disks D) (k : Clocks C) where
   -- The words were done, with an input of at most so many bytes, or are no command.
   pub record DoesAsAsked (words : List (List ℕ)) (limit : ℕ) (before after : World D C) (status : ℕ) : Type 0 where
     -- each other command than `serve` leaves the port as it is
-    pub run : MatchOption (serving_of words)
+    pub run : MatchOption (parse_serve_args words)
         (alone.DoesAsAsked d k words limit (without_port before) (without_port after) status
         × SamePort before after)
         (DoesServe before after status)
@@ -39,7 +39,7 @@ module _ {D C : Type 0} (d : Disks D) (k : Clocks C) where
     pub disk_fault : status ≡ 9 → Rose (d.faults before.disk) (d.faults after.disk)
     pub port_fault : status ≡ 10 → Rose before.port.faults after.port.faults
     -- Where no count rose, a command ends well, by what it found, or for want of memory.
-    pub complete : IsSome (command_of words) ⊎ IsSome (serving_of words)
+    pub complete : IsSome (command_of words) ⊎ IsSome (parse_serve_args words)
         → ¬ Rose before.input.faults after.input.faults
         → ¬ Rose before.output.faults after.output.faults
         → ¬ Rose (d.faults before.disk) (d.faults after.disk)

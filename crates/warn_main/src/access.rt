@@ -5,14 +5,14 @@ ghost use Rattle.warn_main.specs.Access.{access_of};
 use desk_program::{Command, command_of};
 use hazard_types::{List, Text};
 use program_outside::Access;
-use serve_command::serving_of;
+use serve_command::parse_serve_args;
 
 /// Returns whether a run with these arguments writes to the journal's file: `init`, `script`,
 /// `upgrade` and `serve` do.
 pub fn access_of(words: &List<Text>) -> Access
     ensures { result ≡ access_of words.now }
 {
-    if serving_of(words).is_some() {
+    if parse_serve_args(words).is_some() {
         return Access::Writes;
     }
     match command_of(words) {

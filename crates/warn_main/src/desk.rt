@@ -3,7 +3,7 @@ ghost use Rattle.std.specs.Prelude.{◌≡◌, None};
 ghost use Rattle.program_ends.specs.Lines.{most_bytes};
 ghost use Rattle.desk_program.specs.Runs.{DoesAsAsked as DoesAlone};
 ghost use Rattle.desk_program.specs.Worlds.{world as world_alone};
-ghost use Rattle.serve_command.specs.Words.{serving_of};
+ghost use Rattle.serve_command.specs.Words.{parse_serve_args};
 ghost use Rattle.warn_main.specs.Promise.{Promise};
 ghost use Rattle.warn_main.specs.Worlds.{world};
 
@@ -15,7 +15,7 @@ use desk_program::desk_within;
 use desk_traits::{Clock, Disk};
 use hazard_types::{List, Text};
 use program_ends::LIMIT;
-use serve_command::{Means, run_serve, serving_of};
+use serve_command::{Means, parse_serve_args, run_serve};
 use std::alloc::Global;
 use std::sync::Wait;
 use std::thread::Threads;
@@ -30,7 +30,7 @@ pub fn desk_alone<S: Source, K: Sink, D: Disk, C: Clock>(
     disk: D,
     clock: &mut C,
 ) -> Ended<D>
-    requires { serving_of words.now ≡ None }
+    requires { parse_serve_args words.now ≡ None }
     ensures { DoesAlone D.Disk C.Clock words.now most_bytes
         (world_alone (S.inflow input.old) (K.outflow output.old) disk clock.old)
         (world_alone (S.inflow input.new) (K.outflow output.new) result.disk clock.new)
@@ -69,10 +69,10 @@ pub fn desk_run<
         (world (S.inflow input.new) (K.outflow output.new) result.disk clock.new
         (P.state port.new))
         result.status }
-    ensures port { serving_of words.now ≡ None → port.new ≡ port.old }
+    ensures port { parse_serve_args words.now ≡ None → port.new ≡ port.old }
 {
     what_was_done_keeps_the_promise::<D, C>();
-    match serving_of(words) {
+    match parse_serve_args(words) {
         Some(serving) => {
             let means = Means {
                 rt,

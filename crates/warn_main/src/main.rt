@@ -13,7 +13,7 @@ mod program;
 use crate::program::{Desk, run_program};
 use desk_links::{OpenGate, TcpPort};
 use desk_traits::SystemClock;
-use program_outside::{HostFiles, outside_of};
+use program_outside::{HostFiles, host_io};
 use std::process::ExitCode;
 
 fn main(rt: HostRuntime) -> ExitCode {
@@ -22,10 +22,5 @@ fn main(rt: HostRuntime) -> ExitCode {
         clock: SystemClock::new(&rt),
         gate: OpenGate,
     };
-    run_program(
-        &rt,
-        &mut outside_of(&rt),
-        &mut HostFiles::new(&rt),
-        &mut desk,
-    )
+    run_program(&rt, &mut host_io(&rt), &mut HostFiles::new(&rt), &mut desk)
 }

@@ -63,7 +63,7 @@ pub(crate) fn refused_answer(
 }
 
 /// The answer with a reply. If memory runs out for its bytes it is written in pieces.
-fn reply_answer(alloc: Global, reply: Text, last: bool) -> AnswerBytes
+fn reply_response(alloc: Global, reply: Text, last: bool) -> AnswerBytes
     ensures { bytes_of result ≡ call_answer Outcome.Replied reply last }
 {
     match answer_with(alloc, &Outcome::Replied, &reply, last) {
@@ -78,8 +78,8 @@ pub(crate) fn submit_answer(alloc: Global, answer: Answer, last: bool) -> Result
     ensures lost { OnErr result (MayBeLost answer) }
 {
     match answer {
-        Answer::Accepted(reply) => Ok(reply_answer(alloc, reply.into_text(), last)),
-        Answer::Repeated(reply) => Ok(reply_answer(alloc, reply.into_text(), last)),
+        Answer::Accepted(reply) => Ok(reply_response(alloc, reply.into_text(), last)),
+        Answer::Repeated(reply) => Ok(reply_response(alloc, reply.into_text(), last)),
         Answer::Refused(refusal) => refused_answer(alloc, refusal, last),
         Answer::DiskFault => Ok(AnswerBytes::Fixed(disk_fault_answer(last))),
         Answer::OutOfMemory => Ok(AnswerBytes::Fixed(no_memory_answer(last))),

@@ -2,10 +2,10 @@
 //! `stats_report::run_program` does all of it (docs/STATISTICS.md).
 #![tactic(auto)]
 
-use program_outside::outside_of;
+use program_outside::host_io;
 use stats_report::run_program;
 use std::process::ExitCode;
 
 fn main(rt: HostRuntime) -> ExitCode {
-    run_program(&mut outside_of(&rt))
+    run_program(&mut host_io(&rt))
 }

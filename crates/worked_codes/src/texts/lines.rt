@@ -1,7 +1,8 @@
 //! Lines of segments as a script writes them.
 use crate::codes::clocks::zone_of;
 use hazard_types::{
-    Action, End, Event, LocalZone, Minute, SegLine, actions, event_in, find, hazard_in, read_stamp,
+    Action, End, Event, LocalZone, Minute, SegLine, actions, find, hazard_in, parse_event,
+    read_stamp,
 };
 
 /// A begin that has passed, or an end until further notice.
@@ -61,7 +62,7 @@ fn routine_of(word: &str) -> Option<Event> {
 
 /// Returns the event of a word, as `WS.W.0001.2018`, or `None`.
 fn event_of(word: &str) -> Option<Event> {
-    match event_in(word.as_bytes()) {
+    match parse_event(word.as_bytes()) {
         Some(event) => Some(event),
         None => routine_of(word),
     }

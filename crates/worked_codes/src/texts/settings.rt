@@ -2,7 +2,7 @@
 use crate::codes::answers::bytes_of;
 use desk_settings::{Settings, SettingsFault, read_settings, training_settings};
 use hazard_types::{
-    Category, Kind, Oom, Or, Text, Zone, categories, find, is_office, zone_in, zone_text,
+    Category, Kind, Oom, Or, Text, Zone, categories, find, is_office, parse_zone, zone_text,
 };
 use office_types::Desk;
 use std::alloc::{AllocError, Global};
@@ -82,7 +82,7 @@ pub fn settings_answer(out: &mut String, alloc: Global, text: &[u8]) -> Result<(
 ///
 /// Out of memory.
 pub fn zone_answer(out: &mut String, alloc: Global, code: &str, text: &[u8]) -> Result<(), Oom> {
-    match (zone_in(code.as_bytes()), read_settings(alloc, text)) {
+    match (parse_zone(code.as_bytes()), read_settings(alloc, text)) {
         (Some(zone), Ok(settings)) => match settings.zone_name(&zone) {
             Some(name) => out.push_str(text_of(name.as_slice()))?,
             None => out.push_str("none")?,

@@ -1,7 +1,7 @@
 //! Errors, as they are printed.
 use desk_clock::read_local_line;
 use desk_settings::read_settings;
-use hazard_types::{Oom, event_in, zone_in};
+use hazard_types::{Oom, parse_event, parse_zone};
 use office_types::{Desk, Refusal};
 use product_decoder::decode;
 use std::alloc::{AllocError, Global};
@@ -34,10 +34,10 @@ fn put_refusals(out: &mut String) -> Result<(), AllocError> {
     if let Some(owner) = Desk::new(b"A") {
         put_error(out, Refusal::NotOwner { owner })?;
     }
-    if let Some(zone) = zone_in(b"MDZ099") {
+    if let Some(zone) = parse_zone(b"MDZ099") {
         put_error(out, Refusal::UnknownZone { zone })?;
     }
-    match (event_in(b"WS.W.0001.2018"), zone_in(b"MDZ006")) {
+    match (parse_event(b"WS.W.0001.2018"), parse_zone(b"MDZ006")) {
         (Some(event), Some(zone)) => put_error(out, Refusal::NotLive { event, zone }),
         _ => Ok(()),
     }

@@ -1,6 +1,6 @@
 //! Runs of the notices over a source and a sink in memory.
 use byte_streams::{MemSink, MemSource};
-use county_notices::notice_within;
+use county_notices::run_notices;
 use hazard_types::{List, Oom, Text};
 use program_ends::LIMIT;
 use std::alloc::Global;
@@ -37,7 +37,7 @@ pub fn run_words(alloc: Global, line: &str, input: &Text, given: &Given) -> Resu
     let mut source = MemSource::new(alloc, input.as_slice(), piece, &given.bad_reads)?;
     let mut sink = MemSink::new(alloc, &given.bad_writes)?;
     let limit = given.limit.min(LIMIT);
-    let status = notice_within(alloc, &words, &mut source, &mut sink, limit);
+    let status = run_notices(alloc, &words, &mut source, &mut sink, limit);
     let text = sink.taken().clone()?;
     Ok(Run { status, text })
 }

@@ -4,7 +4,7 @@ use byte_streams::{MemSink, MemSource};
 use hazard_types::{List, Oom, Text};
 use program_ends::LIMIT;
 use sha2::{Digest, Sha256};
-use stats_report::stats_within;
+use stats_report::run_stats;
 use std::alloc::Global;
 
 /// What is written of an archive.
@@ -72,7 +72,7 @@ pub fn run_telling(
     let limit = given.limit.min(LIMIT);
     let status = match telling {
         Telling::Report => archive_within(alloc, words, &mut source, &mut sink, limit),
-        Telling::Stats => stats_within(alloc, words, &mut source, &mut sink, limit),
+        Telling::Stats => run_stats(alloc, words, &mut source, &mut sink, limit),
     };
     let text = sink.taken().clone()?;
     Ok(Run { status, text })

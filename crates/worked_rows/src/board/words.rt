@@ -1,7 +1,7 @@
 //! The words of a script of days.
 use hazard_types::{
-    Action, Begin, Category, End, Event, Hazard, List, Minute, Or, Zone, actions, categories,
-    event_in, find, hazard_in, read_stamp, zone_in,
+    Action, Begin, Category, End, Event, Hazard, List, Minute, Or, Zone, actions, categories, find,
+    hazard_in, parse_event, parse_zone, read_stamp,
 };
 use office_types::Target;
 use std::alloc::Global;
@@ -38,7 +38,7 @@ pub fn action_of(word: &str) -> Option<Action> {
 
 /// Returns the zone of a code, as `MDZ003`, or `None`.
 pub fn zone_of(word: &str) -> Option<Zone> {
-    zone_in(word.as_bytes())
+    parse_zone(word.as_bytes())
 }
 
 /// Returns the category of a code, as `WSW`, or `None`.
@@ -58,7 +58,7 @@ pub fn number_of(word: &str) -> Option<u16> {
 
 /// Returns the event of a word, as `WS.W.0001.2018`, or `None`.
 pub fn event_of(word: &str) -> Option<Event> {
-    event_in(word.as_bytes())
+    parse_event(word.as_bytes())
 }
 
 /// Returns the target of a word: an event to join, or a hazard to open an event of. `None` if the
@@ -98,12 +98,12 @@ pub fn zones_of(alloc: Global, word: &str) -> Result<List<Zone>, Or<Unread>> {
     for item in word.split(',') {
         match item.split_once('>') {
             Some((first, last)) => {
-                let first = zone_in(first.as_bytes()).ok_or(Or::No(Unread))?;
+                let first = parse_zone(first.as_bytes()).ok_or(Or::No(Unread))?;
                 let last = number_of(last).ok_or(Or::No(Unread))?;
                 push_run(&mut zones, &first, last)?;
             }
             None => {
-                let zone = zone_in(item.as_bytes()).ok_or(Or::No(Unread))?;
+                let zone = parse_zone(item.as_bytes()).ok_or(Or::No(Unread))?;
                 zones.push(zone)?;
             }
         }

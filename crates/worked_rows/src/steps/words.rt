@@ -1,7 +1,7 @@
 //! The steps of a script of lives, and their words.
 use hazard_types::{
-    Cause, End, Flood, Line, Minute, Period, Row, Severity, Status, Zone, actions, event_in, find,
-    read_stamp, time_in, zone_in,
+    Cause, End, Flood, Line, Minute, Period, Row, Severity, Status, Zone, actions, find,
+    parse_event, parse_zone, read_stamp, time_in,
 };
 use std::str::SplitWhitespace;
 
@@ -78,13 +78,13 @@ fn minute_of(word: &str) -> Result<Minute, Unread> {
 
 /// Returns the zone of a code, as `MDZ003`.
 fn zone_of(word: &str) -> Result<Zone, Unread> {
-    known(zone_in(word.as_bytes()))
+    known(parse_zone(word.as_bytes()))
 }
 
 /// Returns the row of the words `ZONE EVENT BEGIN END`, with the location of flood values, if any.
 fn row_of(words: &mut SplitWhitespace<'_>, ended: bool) -> Result<Row, Unread> {
     let zone = zone_of(next_word(words)?)?;
-    let event = known(event_in(next_word(words)?.as_bytes()))?;
+    let event = known(parse_event(next_word(words)?.as_bytes()))?;
     let begin = minute_of(next_word(words)?)?;
     let end = end_of(next_word(words)?)?;
     let flood = flood_of(words.next())?;
@@ -103,7 +103,7 @@ fn row_of(words: &mut SplitWhitespace<'_>, ended: bool) -> Result<Row, Unread> {
 fn line_of(words: &mut SplitWhitespace<'_>) -> Result<Line, Unread> {
     let action = known(find(&actions(), next_word(words)?.as_bytes()))?;
     let zone = zone_of(next_word(words)?)?;
-    let event = known(event_in(next_word(words)?.as_bytes()))?;
+    let event = known(parse_event(next_word(words)?.as_bytes()))?;
     let begin = time_of(next_word(words)?)?;
     let end = end_of(next_word(words)?)?;
     let flood = flood_of(words.next())?;

@@ -3,7 +3,7 @@ ghost use Rattle.std.specs.Prelude.{IfOk, IfSome};
 ghost use Rattle.serve_command.specs.Words.{IsServing};
 
 use hazard_types::Oom;
-use serve_command::{Serving, serving_of};
+use serve_command::{Serving, parse_serve_args};
 use std::alloc::Global;
 use worked_lines::words_of;
 
@@ -16,7 +16,7 @@ pub fn serving_in(alloc: Global, line: &str) -> Result<Option<Serving>, Oom>
     ensures { IfOk result (λ serving. IfSome serving IsServing) }
 {
     let words = words_of(alloc, line)?;
-    Ok(serving_of(&words))
+    Ok(parse_serve_args(&words))
 }
 
 /// Returns the port, workers and connections of the words of a line, or `Usage`.

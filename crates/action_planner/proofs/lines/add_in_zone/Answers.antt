@@ -16,7 +16,7 @@ returns-clause-lines c =
     let category = c.args.category in
     let s = c.args.sending.now in
     let old = c.args.lines.now in
-    let some = c.live_slice-rows.result.now in
+    let some = c.rows_in_zone_with_live-rows.result.now in
     on_ok c.add_going_on.result _ _
     (λ is.
     is

@@ -9,9 +9,9 @@ use Rattle.desk_settings.proofs.fields.zones_of.Goals as goal
 pub loop-key-preserved : goal.loop-key-preserved
 loop-key-preserved c =
     let l = c.loop-key in
-    let code : zone_at (string_bytes c.in-Some.key.now) ≡ Some c.in-Some-zone_in.zone = search rules in
+    let code : zone_at (string_bytes c.in-Some.key.now) ≡ Some c.in-Some-parse_zone.zone = search rules in
     let named : option_and_then zone_name_in (as_str (view c.in-Some.value.now)) ≡ Some c.in-Some-zone_name_in.text.now = search rules in
-    let next = pairs_next l.zones (string_bytes c.in-Some.key.now) c.in-Some-zone_name_in.text.now c.in-Some-zone_in.zone (view c.in-Some.value.now) (members_view c.next.new.self) code named in
+    let next = pairs_next l.zones (string_bytes c.in-Some.key.now) c.in-Some-zone_name_in.text.now c.in-Some-parse_zone.zone (view c.in-Some.value.now) (members_view c.next.new.self) code named in
     let inv = rw c.in-Some.ensures.steps at l.invariant in
     rw (c.in_ok-push.ensures.ok, c.in_ok-name.ensures) (rw c.as_bytes-in-loop-key.ensures.value (inv ∙ next))
 

@@ -10,7 +10,7 @@ use Rattle.hazard_board.proofs.Board.rows_of.Goals.{After-from_vec}
 kept : (c : After-from_vec) → c.from_vec.result ≡ live_in c.args.z c.args.t c.self.inside.rows.rows
 kept c =
     c.from_vec.ensures ∙ c.in_ok-live.ensures
-    ∙ c.live_slice.ensures.alike
+    ∙ c.rows_in_zone_with_live.ensures.alike
     ∙ live_in_zone c.args.z c.args.t c.self.inside.rows.rows
 
 pub returns-clause-rows : goal.returns-clause-rows

@@ -6,7 +6,7 @@ use Rattle.hazard_types.specs.declared.line.Row.{Row}
 use Rattle.event_life.specs.Products.{by_key}
 use Rattle.hazard_board.specs.Board.{slice_of}
 use Rattle.hazard_board.specs.Clashes.{first_clash, may_clash}
-use Rattle.hazard_board.specs.NewClashes.{lefts, clashes_newly}
+use Rattle.hazard_board.specs.NewClashes.{lefts, is_new_clash}
 use Rattle.hazard_board.specs.declared.lines.Left.{Left}
 use Rattle.hazard_board.proofs.LeftLemmas.{zone_left, lefts_clash}
 use Rattle.hazard_board.specs.Taken.{rows_taken}
@@ -33,8 +33,8 @@ returns-then-not-has_new_clash c =
     let quiet : c.has_new_clash.result ≡ false = c.if-not-has_new_clash.true in
     let left : c.deref-3.result.now ≡ lefts rows t own = c.deref-3.ensures.value ∙ c.in_ok-left.ensures in
     let none =
-    ap (λ (some : List Row). list_any (clashes_newly t some) (lefts rows t own)) (sym c.deref-2.ensures.value)
-    ∙ ap (λ (some : List Left). list_any (clashes_newly t c.deref-2.result.now) some) (sym left)
+    ap (λ (some : List Row). list_any (is_new_clash t some) (lefts rows t own)) (sym c.deref-2.ensures.value)
+    ∙ ap (λ (some : List Left). list_any (is_new_clash t c.deref-2.result.now) some) (sym left)
     ∙ sym c.has_new_clash.ensures ∙ quiet in
     let live = zone_left t z rows after own lines c.deref.result.now c.requires.order c.requires.own (c.deref.ensures.value ∙ c.in_ok-left.ensures) c.in_ok-after.ensures.live in
     let none_of_all = sym (alike_left t rows after all own live) ∙ sym (lefts_clash rows t after own) ∙ none in

@@ -16,7 +16,7 @@ returns c =
     let ps = c.self.inside.spoken.now in
     let rows = c.self.inside.board.now.rows in
     c.is_overlaid_by.ensures
-    ∙ ap (λ (stands : Bool). stands || list_any (overlays t row) c.rows_in-put.result.now) (overlaid_live t ps row rows c.live_slice-stand.result.now c.live_slice-stand.ensures.rows)
+    ∙ ap (λ (stands : Bool). stands || list_any (overlays t row) c.rows_in-put.result.now) (overlaid_live t ps row rows c.rows_in_zone_with_live-stand.result.now c.rows_in_zone_with_live-stand.ensures.rows)
     ∙ ap (λ (put : List Row). list_any (λ (r : Row). overlays t row r && is_left ps r) (slice_of row.zone rows) || list_any (overlays t row) put) c.rows_in-put.ensures
     ∙ overlaid_in_zone rows t ps row c.self.inside.put.entries (c.self.invariant (ap (λ (x : Sending). have_finish x.intents) c.self.view_is ∙ c.requires))
     ∙ ap (λ (x : Sending). is_overlaid x.rows x.minute x.intents row) c.self.view_is

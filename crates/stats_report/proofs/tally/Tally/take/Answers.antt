@@ -5,4 +5,4 @@ use Rattle.stats_report.proofs.tally.Tally.take.Goals as goal
 
 pub returns : goal.returns
 returns c =
-    on_ok_weaker c.take_reading.result (λ takes. counts_told c.args.asked.now (said_of c.args.reading.now) c.args.self.now c.take_reading.new.self takes) c.take_reading.ensures
+    on_ok_weaker c.add_reading.result (λ takes. counts_told c.args.asked.now (said_of c.args.reading.now) c.args.self.now c.add_reading.new.self takes) c.add_reading.ensures
