@@ -20,7 +20,7 @@ use Rattle.event_life.specs.Periods.{is_live}
 use Rattle.event_life.specs.Products.{by_key}
 use Rattle.hazard_board.specs.Board.{slice_of}
 use Rattle.action_planner.specs.Placed.{Placed, touches, speaks}
-use Rattle.action_planner.specs.Lines.{line_on, follows, goes_on_beside, added_in, added_lines}
+use Rattle.action_planner.specs.Lines.{line_on, follows, is_continued, added_in, added_lines}
 
 -- one of the zones is that of the row
 names : List Place → Row → Bool
@@ -131,13 +131,13 @@ one_more p z zones rows up above =
     ∙ ap (λ (some : List Row). some ++ filter (λ (r : Row). names zones r && p r) rows) (sym (filtered_twice (λ (r : Row). same_zone r.zone z) p rows))
 
 module _ (c : Category) (t : ℕ) (ps : List Placed) (rows : List Row) (up : IsStrictlySortedBy by_key rows) where
-  in_zones : (zones : List Place) → IsStrictlySortedBy by_place zones → map (line_on Con t) (filter (λ (r : Row). names zones r && goes_on_beside c t ps r) rows) ≡ added_in c rows t ps zones
+  in_zones : (zones : List Place) → IsStrictlySortedBy by_place zones → map (line_on Con t) (filter (λ (r : Row). names zones r && is_continued c t ps r) rows) ≡ added_in c rows t ps zones
   unfolding IsStrictlySortedBy
-  in_zones [] up_zones = ap (map (line_on Con t)) (none_named (goes_on_beside c t ps) rows)
+  in_zones [] up_zones = ap (map (line_on Con t)) (none_named (is_continued c t ps) rows)
   in_zones (z ∷ zones) up_zones =
-      ap (map (line_on Con t)) (one_more (goes_on_beside c t ps) z zones rows up up_zones.0)
-      ∙ said_apart (line_on Con t) (filter (goes_on_beside c t ps) (slice_of z rows)) (filter (λ (r : Row). names zones r && goes_on_beside c t ps r) rows)
-      ∙ ap (λ (lines : List Line). map (line_on Con t) (filter (goes_on_beside c t ps) (slice_of z rows)) ++ lines) (in_zones zones up_zones.1)
+      ap (map (line_on Con t)) (one_more (is_continued c t ps) z zones rows up up_zones.0)
+      ∙ said_apart (line_on Con t) (filter (is_continued c t ps) (slice_of z rows)) (filter (λ (r : Row). names zones r && is_continued c t ps r) rows)
+      ∙ ap (λ (lines : List Line). map (line_on Con t) (filter (is_continued c t ps) (slice_of z rows)) ++ lines) (in_zones zones up_zones.1)
 
 asked_twice : (named live follows dry other : Bool) → (live && (((follows && dry) && named) && other)) ≡ (named && (live && (((follows && dry) && named) && other)))
 asked_twice true live follows dry other = refl
@@ -147,16 +147,16 @@ asked_twice false true false dry other = refl
 asked_twice false false follows dry other = refl
 
 named_too : (c : Category) (t : ℕ) (ps : List Placed) (zones : List Place) (rows : List Row) → ((z : Place) → list_any (λ (y : Place). same_zone y z) zones ≡ list_any (touches z) ps) →
-    filter (goes_on_beside c t ps) rows ≡ filter (λ (r : Row). names zones r && goes_on_beside c t ps r) rows
+    filter (is_continued c t ps) rows ≡ filter (λ (r : Row). names zones r && is_continued c t ps r) rows
 unfolding names
 named_too c t ps zones rows touched =
-    filtered_alike (goes_on_beside c t ps) (λ (r : Row). names zones r && goes_on_beside c t ps r)
+    filtered_alike (is_continued c t ps) (λ (r : Row). names zones r && is_continued c t ps r)
     (λ r.
     asked_twice (list_any (touches r.zone) ps) (is_live t r) (follows c (facts_of r.event.hazard)) (not (is_fl_phenomenon r.event.hazard)) (not (list_any (speaks r.event r.zone) ps))
-    ∙ ap (λ (b : Bool). b && goes_on_beside c t ps r) (sym (touched r.zone))) rows
+    ∙ ap (λ (b : Bool). b && is_continued c t ps r) (sym (touched r.zone))) rows
 
 -- the rows of the touched zones say what all rows do
 pub added_of_zones : (c : Category) (t : ℕ) (ps : List Placed) (rows : List Row) (zones : List Place) → IsStrictlySortedBy by_place zones → ((z : Place) → list_any (λ (y : Place). same_zone y z) zones ≡ list_any (touches z) ps) →
     (0 < length zones → IsStrictlySortedBy by_key rows) → added_in c rows t ps zones ≡ added_lines c rows t ps
-added_of_zones c t ps rows [] up_zones touched up = sym (ap (map (line_on Con t)) (named_too c t ps [] rows touched ∙ none_named (goes_on_beside c t ps) rows))
+added_of_zones c t ps rows [] up_zones touched up = sym (ap (map (line_on Con t)) (named_too c t ps [] rows touched ∙ none_named (is_continued c t ps) rows))
 added_of_zones c t ps rows (z ∷ zones) up_zones touched up = sym (ap (map (line_on Con t)) (named_too c t ps (z ∷ zones) rows touched) ∙ in_zones c t ps rows (up (omega arith)) (z ∷ zones) up_zones)

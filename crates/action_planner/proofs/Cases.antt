@@ -16,10 +16,10 @@ use Rattle.event_life.specs.Products.{by_key, row_at}
 use Rattle.event_life.proofs.Puts.{at_key}
 use Rattle.event_numbers.specs.declared.Count.{Count}
 use Rattle.action_planner.specs.Placed.{Placed, placed, zones_of, touches, speaks}
-use Rattle.action_planner.specs.Lines.{added_lines, goes_on_beside, line_on, lines_from, lines_in, lines_in_zones, planned_lines}
+use Rattle.action_planner.specs.Lines.{added_lines, is_continued, line_on, lines_from, lines_in, lines_in_zones, planned_lines}
 use Rattle.action_planner.specs.Conditions.{CanPlan, IsFollowedBy}
 use Rattle.action_planner.specs.Offences.{broken, is_gone, was_left}
-use Rattle.action_planner.specs.Cases.{GoesOnBeside, IsLive, IsPlanned, Says, SpeaksOf}
+use Rattle.action_planner.specs.Cases.{IsContinued, IsLive, IsPlanned, Says, SpeaksOf}
 use Rattle.action_planner.proofs.LawfulLists.{Has, all_both, all_has, all_weaker, any_from, contains_from, has_all, has_filter, has_left, has_map, has_right, has_split, kept, map_has}
 use Rattle.action_planner.proofs.LawfulPlaced.{IsFit, fits}
 use Rattle.action_planner.proofs.LawfulSteps.{row_at-parts}
@@ -81,7 +81,7 @@ module _ (rows : List Row) (t : ℕ) (all : List Placed) (fit : AllByRecursion (
   abbrev Beside : Event → Place → Type 0
   Beside e z = IsFollowedBy c e.hazard × (¬ (e.hazard.phen ≡ codes "FL")) × Any (λ (p : Placed). Contains (zones_of p.intent) z) all × All (λ (p : Placed). ¬ SpeaksOf p e z) all
 
-  beside_Decides : (row : Row) → Decides (goes_on_beside c t all row) (IsLive t row × Beside row.event row.zone)
+  beside_Decides : (row : Row) → Decides (is_continued c t all row) (IsLive t row × Beside row.event row.zone)
   beside_Decides row =
       Decides-like _ (λ h. (h.0, (h.1.0.0.0, h.1.0.0.1, h.1.0.1, h.1.1))) (λ h. (h.0, (((h.1.0, h.1.1), h.1.2), h.1.3)))
       (Decides-and _ _ (live_Decides t row)
@@ -91,26 +91,26 @@ module _ (rows : List Row) (t : ℕ) (all : List Placed) (fit : AllByRecursion (
       (any_Decides (touches row.zone) (λ (p : Placed). Contains (zones_of p.intent) row.zone) (touches_Decides row.zone) all))
       (none_Decides (speaks row.event row.zone) (λ (p : Placed). SpeaksOf p row.event row.zone) (speaks_Decides row.event row.zone) all)))
 
-  beside_from : (row : Row) → row_at rows row.event row.zone ≡ Some row → goes_on_beside c t all row ≡ true → GoesOnBeside c rows t all (line_on Con t row)
+  beside_from : (row : Row) → row_at rows row.event row.zone ≡ Some row → is_continued c t all row ≡ true → IsContinued c rows t all (line_on Con t row)
   beside_from row h test =
       let b = (beside_Decides row).0 test in
       record { unspoken = b.1.3; touched = b.1.2; category = b.1.0; no_flood = b.1.1; restated = restates_by rows t row h b.0 }
 
-  added_from : IsStrictlySortedBy by_key rows → (line : Line) → Has (added_lines c rows t all) line → GoesOnBeside c rows t all line
+  added_from : IsStrictlySortedBy by_key rows → (line : Line) → Has (added_lines c rows t all) line → IsContinued c rows t all line
   added_from up line h =
-      let m = has_map (line_on Con t) (filter (goes_on_beside c t all) rows) line h in
-      let k = has_filter (goes_on_beside c t all) rows m.0 m.1 in
+      let m = has_map (line_on Con t) (filter (is_continued c t all) rows) line h in
+      let k = has_filter (is_continued c t all) rows m.0 m.1 in
       let own : row_at rows m.0.event m.0.zone ≡ Some m.0 = all_has (λ (r : Row). row_at rows r.event r.zone ≡ Some r) rows m.0 (rows_own rows t all rows up) k.0 in
-      subst (GoesOnBeside c rows t all) m.2 (beside_from m.0 own k.1)
+      subst (IsContinued c rows t all) m.2 (beside_from m.0 own k.1)
 
-  added_to : (line : Line) → GoesOnBeside c rows t all line → Has (added_lines c rows t all) line
+  added_to : (line : Line) → IsContinued c rows t all line → Has (added_lines c rows t all) line
   added_to line g =
       let row = g.restated.row in
       let p = row_at-parts rows line.event line.zone row g.restated.there in
       let said : Beside line.event line.zone = (g.category, g.no_flood, g.touched, g.unspoken) in
       let asked : Beside row.event row.zone = subst (λ (e : Event). Beside e row.zone) (sym p.0) (subst (Beside line.event) (sym p.1) said) in
-      let stands : Has (filter (goes_on_beside c t all) rows) row = kept (goes_on_beside c t all) rows row (found_has (at_key line.event line.zone) rows row g.restated.there) ((beside_Decides row).1 (g.restated.live, asked)) in
-      subst (Has (added_lines c rows t all)) (restate_is rows t line g.restated) (map_has (line_on Con t) (filter (goes_on_beside c t all) rows) row stands)
+      let stands : Has (filter (is_continued c t all) rows) row = kept (is_continued c t all) rows row (found_has (at_key line.event line.zone) rows row g.restated.there) ((beside_Decides row).1 (g.restated.live, asked)) in
+      subst (Has (added_lines c rows t all)) (restate_is rows t line g.restated) (map_has (line_on Con t) (filter (is_continued c t all) rows) row stands)
 
   -- all lines
 

@@ -24,7 +24,7 @@ use Rattle.event_life.proofs.Keys.{key_ties}
 use Rattle.event_life.proofs.Puts.{at_key, at_key-parts, concerns-parts}
 use Rattle.hazard_board.specs.Board.{has_period}
 use Rattle.action_planner.specs.Placed.{Placed, zones_of, touches, speaks}
-use Rattle.action_planner.specs.Lines.{put_period, put_period_on, opening_action, joined_row, put_line_on, put_line, line_on, finish_lines, restate_lines, lines_in, lines_in_zones, lines_from, goes_on, goes_on_beside, added_lines, planned_lines}
+use Rattle.action_planner.specs.Lines.{put_period, put_period_on, opening_action, joined_row, put_line_on, put_line, line_on, finish_lines, restate_lines, lines_in, lines_in_zones, lines_from, goes_on, is_continued, added_lines, planned_lines}
 use Rattle.action_planner.specs.Offences.{is_shared}
 use Rattle.action_planner.proofs.LawfulLists.{EachPair, Has, all_append, all_both, all_each, all_weaker, all_filter, all_has, all_map, any_has, has_all, pair_append, pair_filter, pair_map, pair_weaker, pairs_from}
 use Rattle.action_planner.proofs.LawfulPlaced.{IsFit}
@@ -216,16 +216,16 @@ module _ (rows : List Row) (t : ℕ) (all : List Placed) where
       let tied : by_key r s ≡ Equal = key_ties r s (sym p.1) (sym p.0) in cc)
 
   added_apart : (c : Category) → IsStrictlySortedBy by_key rows → EachPair AreApart (added_lines c rows t all)
-  added_apart c up = pair_map AreApart (line_on Con t) (filter (goes_on_beside c t all) rows)
-      (pair_weaker (λ r s. by_key r s ≡ Less) (λ r s. AreApart (line_on Con t r) (line_on Con t s)) apart_rows (filter (goes_on_beside c t all) rows)
-      (pair_filter (λ r s. by_key r s ≡ Less) (goes_on_beside c t all) rows (sorted_pairs rows up)))
+  added_apart c up = pair_map AreApart (line_on Con t) (filter (is_continued c t all) rows)
+      (pair_weaker (λ r s. by_key r s ≡ Less) (λ r s. AreApart (line_on Con t r) (line_on Con t s)) apart_rows (filter (is_continued c t all) rows)
+      (pair_filter (λ r s. by_key r s ≡ Less) (is_continued c t all) rows (sorted_pairs rows up)))
 
   -- of no added line an intent speaks
   added_unspoken : (c : Category) → AllByRecursion (λ m. list_any (speaks m.event m.zone) all ≡ false) (added_lines c rows t all)
   added_unspoken c =
-      all_map (λ m. list_any (speaks m.event m.zone) all ≡ false) (line_on Con t) (filter (goes_on_beside c t all) rows)
-      (all_weaker (λ r. Unit {0} × (goes_on_beside c t all r ≡ true)) (λ r. list_any (speaks r.event r.zone) all ≡ false) (λ r h. not-true _ (and_parts _ (not (list_any (speaks r.event r.zone) all)) (and_parts (is_live t r) (goes_on c all r) h.1).1).1) (filter (goes_on_beside c t all) rows)
-      (all_filter (λ r. Unit {0}) (goes_on_beside c t all) rows (all_each (λ r. Unit {0}) (λ r. tt) rows)))
+      all_map (λ m. list_any (speaks m.event m.zone) all ≡ false) (line_on Con t) (filter (is_continued c t all) rows)
+      (all_weaker (λ r. Unit {0} × (is_continued c t all r ≡ true)) (λ r. list_any (speaks r.event r.zone) all ≡ false) (λ r h. not-true _ (and_parts _ (not (list_any (speaks r.event r.zone) all)) (and_parts (is_live t r) (goes_on c all r) h.1).1).1) (filter (is_continued c t all) rows)
+      (all_filter (λ r. Unit {0}) (is_continued c t all) rows (all_each (λ r. Unit {0}) (λ r. tt) rows)))
 
   -- of each line of an intent one speaks
   from_spoken : (qs : List Placed) → AllByRecursion (λ l. list_any (speaks l.event l.zone) qs ≡ true) (lines_from rows t all qs)

@@ -15,7 +15,7 @@ use Rattle.event_life.specs.Periods.{ends_after, is_live, keeps_open}
 use Rattle.event_life.specs.Products.{by_key, has_rows, is_held, is_open, row_at}
 use Rattle.event_life.proofs.Puts.{at_key}
 use Rattle.action_planner.specs.Placed.{Placed, zones_of, is_opening}
-use Rattle.action_planner.specs.Lines.{line_on, finish_lines, restate_lines, lines_in, lines_in_zones, lines_from, goes_on, goes_on_beside, added_lines, planned_lines}
+use Rattle.action_planner.specs.Lines.{line_on, finish_lines, restate_lines, lines_in, lines_in_zones, lines_from, goes_on, is_continued, added_lines, planned_lines}
 use Rattle.action_planner.specs.Offences.{is_bad_period, bad_period_of, has_row_by, is_gone, needs_event, was_left}
 use Rattle.action_planner.proofs.LawfulLists.{Has, all_append, all_both, all_filter, all_has, all_map, all_weaker}
 use Rattle.action_planner.proofs.LawfulPlaced.{IsFit}
@@ -61,16 +61,16 @@ module _ (rows : List Row) (t : ℕ) (all : List Placed) (long : AllByRecursion 
       each_zone rows t all (IsSound rows t) F p.event p.intent (λ z h. sound_in p.place p.event p.intent z fit.new fit.free fit.known fit.period h.0 h.1) (zones_of p.intent)
       (all_both (λ z. is_gone rows t p.event p.intent z ≡ false) (λ z. was_left rows t p.event p.intent z ≡ false) (zones_of p.intent) fit.there fit.live)
 
-  goes_on_live : (c : Category) (r : Row) → goes_on_beside c t all r ≡ true → is_live t r ≡ true
+  goes_on_live : (c : Category) (r : Row) → is_continued c t all r ≡ true → is_live t r ≡ true
   goes_on_live c r h = (and_parts (is_live t r) (goes_on c all r) h).0
 
   added_sound : (c : Category) → IsStrictlySortedBy by_key rows → AllByRecursion (IsSound rows t) (added_lines c rows t all)
   added_sound c up =
       let P : Row → Type 0 = λ r. LastsLong r × (row_at rows r.event r.zone ≡ Some r) in
       let known : AllByRecursion P rows = all_both LastsLong (λ r. row_at rows r.event r.zone ≡ Some r) rows long (rows_own rows t all rows up) in
-      all_map (IsSound rows t) (line_on Con t) (filter (goes_on_beside c t all) rows)
-      (all_weaker (λ r. P r × (goes_on_beside c t all r ≡ true)) (λ r. IsSound rows t (line_on Con t r)) (λ r h. con_sound rows t r h.0.1 (goes_on_live c r h.1) h.0.0) (filter (goes_on_beside c t all) rows)
-      (all_filter P (goes_on_beside c t all) rows known))
+      all_map (IsSound rows t) (line_on Con t) (filter (is_continued c t all) rows)
+      (all_weaker (λ r. P r × (is_continued c t all r ≡ true)) (λ r. IsSound rows t (line_on Con t r)) (λ r h. con_sound rows t r h.0.1 (goes_on_live c r h.1) h.0.0) (filter (is_continued c t all) rows)
+      (all_filter P (is_continued c t all) rows known))
 
   pub planned_sound : (c : Category) → IsStrictlySortedBy by_key rows → AllByRecursion (IsFit rows t all) all → AllByRecursion (IsSound rows t) (planned_lines c rows t all)
   planned_sound c up fit = all_append (IsSound rows t) (lines_from rows t all all) (added_lines c rows t all)

@@ -20,7 +20,7 @@ use Rattle.hazard_types.specs.declared.codes.Category.{Category}
 use Rattle.office_types.specs.declared.request.PutPart.{PutPart}
 use Rattle.event_life.specs.Periods.{ends_after, same_at}
 use Rattle.hazard_board.specs.Board.{has_period}
-use Rattle.action_planner.specs.Lines.{added_lines, finish_lines, goes_on_beside, is_near_end, is_overlaid, joined_row, line_on, lines_from, lines_in, lines_in_zones, opening_action, planned_lines, put_line, put_line_on, put_period, put_period_on, restate_lines, unless_ended}
+use Rattle.action_planner.specs.Lines.{added_lines, finish_lines, is_continued, is_near_end, is_overlaid, joined_row, line_on, lines_from, lines_in, lines_in_zones, opening_action, planned_lines, put_line, put_line_on, put_period, put_period_on, restate_lines, unless_ended}
 use Rattle.action_planner.specs.Conditions.{CanPlan, MayHold}
 use Rattle.action_planner.proofs.LawfulLists.{Has, all_append, all_each, all_map, all_weaker, any_from, contains_from, has_all, has_filter, has_left, has_map, has_right, kept, map_has}
 use Rattle.action_planner.proofs.LawfulKeys.{IsOn, each_intent, each_zone, either_action, lines_on}
@@ -222,7 +222,7 @@ module _ (rows : List Row) (t : ℕ) (all : List Placed) where
   pub new_lines_opened : (c : Category) → AllByRecursion IsOpened (planned_lines c rows t all)
   new_lines_opened c = all_append IsOpened (lines_from rows t all all) (added_lines c rows t all)
       (each_intent rows t all IsOpened (Has all) (λ p h. each_zone rows t all IsOpened (λ z. Unit {0}) p.event p.intent (λ z u. opened_in p.event p.intent z (is_among p h)) (zones_of p.intent) (all_each (λ z. Unit {0}) (λ z. tt) (zones_of p.intent))) all (has_all all))
-      (all_map IsOpened (line_on Con t) (filter (goes_on_beside c t all) rows) (all_each (λ r. IsOpened (line_on Con t r)) (λ r h. cc) (filter (goes_on_beside c t all) rows)))
+      (all_map IsOpened (line_on Con t) (filter (is_continued c t all) rows) (all_each (λ r. IsOpened (line_on Con t r)) (λ r h. cc) (filter (is_continued c t all) rows)))
 
   abbrev pub HasNew : List Line → Event → Type 0
   HasNew lines e = (l : Line) × Has lines l × (is_new l.action ≡ true) × (l.event ≡ e)

@@ -27,7 +27,7 @@ use Rattle.event_life.specs.Products.{by_key, has_higher, is_overlapped, is_rout
 use Rattle.event_life.proofs.Puts.{concerns-parts}
 use Rattle.hazard_board.specs.Board.{has_period}
 use Rattle.action_planner.specs.Placed.{Placed, zones_of, touches, speaks}
-use Rattle.action_planner.specs.Lines.{put_period, put_period_on, continuing_line, opening_action, opening_line, joined_row, put_line_on, put_line, line_on, puts_or_finishes, is_left, period_by_put, row_after_put, rows_by_intent, rows_by_puts, rows_left, is_overlaid, is_near_end, finishing_action, finish_lines, restate_lines, lines_in, lines_in_zones, lines_from, goes_on_beside, added_lines, planned_lines}
+use Rattle.action_planner.specs.Lines.{put_period, put_period_on, continuing_line, opening_action, opening_line, joined_row, put_line_on, put_line, line_on, puts_or_finishes, is_left, period_by_put, row_after_put, rows_by_intent, rows_by_puts, rows_left, is_overlaid, is_near_end, finishing_action, finish_lines, restate_lines, lines_in, lines_in_zones, lines_from, is_continued, added_lines, planned_lines}
 use Rattle.action_planner.specs.Offences.{is_bad_period, bad_period_of}
 use Rattle.action_planner.proofs.LawfulLists.{EachPair, Has, all_append, all_each, all_filter, all_has, all_map, all_weaker, any_has, has_any, has_filter, has_left, has_map, has_right, has_split, none_of}
 use Rattle.action_planner.proofs.LawfulPlaced.{IsFit}
@@ -148,9 +148,9 @@ module _ (rows : List Row) (t : ℕ) (all : List Placed) (Q : Row → Bool) (liv
     left_leaves : (c : Category) → IsStrictlySortedBy by_key rows → is_left all r ≡ true → AllByRecursion LeavesIt (planned_lines c rows t all)
     left_leaves c up left = all_append LeavesIt (lines_from rows t all all) (added_lines c rows t all)
         (each_intent rows t all LeavesIt (λ p. (puts_or_finishes p.intent && speaks r.event r.zone p) ≡ false) placed_leaves all (none_of (λ (p : Placed). puts_or_finishes p.intent && speaks r.event r.zone p) all (not-true _ left)))
-        (all_map LeavesIt (line_on Con t) (filter (goes_on_beside c t all) rows)
-        (all_weaker (λ s. (row_at rows s.event s.zone ≡ Some s) × (goes_on_beside c t all s ≡ true)) (λ s. LeavesIt (line_on Con t s)) (λ s h. con_leaves_it s h.0) (filter (goes_on_beside c t all) rows)
-        (all_filter (λ s. row_at rows s.event s.zone ≡ Some s) (goes_on_beside c t all) rows (rows_own rows t all rows up))))
+        (all_map LeavesIt (line_on Con t) (filter (is_continued c t all) rows)
+        (all_weaker (λ s. (row_at rows s.event s.zone ≡ Some s) × (is_continued c t all s ≡ true)) (λ s. LeavesIt (line_on Con t s)) (λ s h. con_leaves_it s h.0) (filter (is_continued c t all) rows)
+        (all_filter (λ s. row_at rows s.event s.zone ≡ Some s) (is_continued c t all) rows (rows_own rows t all rows up))))
 
   -- a row that a put puts there
 
@@ -259,4 +259,4 @@ module _ (rows : List Row) (t : ℕ) (all : List Placed) (c : Category) (up : Is
   pub planned_higher : AllByRecursion HasHigher (planned_lines c rows t all)
   planned_higher = all_append HasHigher (lines_from rows t all all) (added_lines c rows t all)
       (each_intent rows t all HasHigher (λ p. Unit {0}) (λ p u. each_zone rows t all HasHigher (λ z. Unit {0}) p.event p.intent (λ z v. higher_in p.event p.intent z) (zones_of p.intent) (all_each (λ z. Unit {0}) (λ z. tt) (zones_of p.intent))) all (all_each (λ p. Unit {0}) (λ p. tt) all))
-      (all_map HasHigher (line_on Con t) (filter (goes_on_beside c t all) rows) (all_each (λ r. HasHigher (line_on Con t r)) (λ r u. cc) (filter (goes_on_beside c t all) rows)))
+      (all_map HasHigher (line_on Con t) (filter (is_continued c t all) rows) (all_each (λ r. HasHigher (line_on Con t r)) (λ r u. cc) (filter (is_continued c t all) rows)))

@@ -26,7 +26,7 @@ use Rattle.event_numbers.specs.declared.Count.{Count}
 use Rattle.event_numbers.specs.Counts.{count_of}
 use Rattle.action_planner.specs.Conditions.{AreNumbered, AreSited, CanPlan, MayHold, needs_values}
 use Rattle.action_planner.specs.Corrections.{corrected_lines}
-use Rattle.action_planner.specs.Lines.{added_lines, finish_lines, goes_on, goes_on_beside, is_near_end, is_overlaid, joined_row, line_on, lines_from, lines_in, planned_lines, restate_lines}
+use Rattle.action_planner.specs.Lines.{added_lines, finish_lines, goes_on, is_continued, is_near_end, is_overlaid, joined_row, line_on, lines_from, lines_in, planned_lines, restate_lines}
 use Rattle.action_planner.specs.Offences.{broken, first_by, needs_event, rules, numbers_spent}
 use Rattle.action_planner.specs.Placed.{Placed, is_opening, is_opening_target, placed, placed_from, speaks, touches, zones_of}
 use Rattle.action_planner.specs.Standing.{AreKnown, HaveFourDigits, IsKnown}
@@ -143,7 +143,7 @@ module _ (rows : List Row) (t : ℕ) (all : List Placed) where
   closed_lines : (c : Category) → AllByRecursion EndsClosed (planned_lines c rows t all)
   closed_lines c = all_append EndsClosed (lines_from rows t all all) (added_lines c rows t all)
       (each_intent rows t all EndsClosed (λ p. Unit {0}) (λ p u. each_zone rows t all EndsClosed (λ z. Unit {0}) p.event p.intent (λ z v. closed_in p.event p.intent z) (zones_of p.intent) (all_each (λ z. Unit {0}) (λ z. tt) (zones_of p.intent))) all (all_each (λ p. Unit {0}) (λ p. tt) all))
-      (all_map EndsClosed (line_on Con t) (filter (goes_on_beside c t all) rows) (all_each (λ r. EndsClosed (line_on Con t r)) (λ r h. cc) (filter (goes_on_beside c t all) rows)))
+      (all_map EndsClosed (line_on Con t) (filter (is_continued c t all) rows) (all_each (λ r. EndsClosed (line_on Con t r)) (λ r h. cc) (filter (is_continued c t all) rows)))
 
 expiring_is : (a : Action) → a ≡ Exp → is_expiring a ≡ true
 expiring_is a e = ap is_expiring e
@@ -178,9 +178,9 @@ module _ (rows : List Row) (t : ℕ) (all : List Placed) where
   zone_lines c = all_append (IsTouched all) (lines_from rows t all all) (added_lines c rows t all)
       (each_intent rows t all (IsTouched all) (Has all) (λ p h. each_zone rows t all (IsTouched all) (Has (zones_of p.intent)) p.event p.intent
       (λ z g. all_weaker (IsOn p.event z) (IsTouched all) (λ line on. (p, h, subst (λ (y : Place). Has (zones_of p.intent) y) (sym on.1) g)) (lines_in rows t all p.event p.intent z) (lines_on rows t all p.event p.intent z)) (zones_of p.intent) (has_all (zones_of p.intent))) all (has_all all))
-      (all_map (IsTouched all) (line_on Con t) (filter (goes_on_beside c t all) rows)
-      (all_weaker (λ r. Unit {0} × (goes_on_beside c t all r ≡ true)) (λ r. IsTouched all (line_on Con t r)) (λ r h. touched_zone all c r (and_parts (is_live t r) (goes_on c all r) h.1).1) (filter (goes_on_beside c t all) rows)
-      (all_filter (λ r. Unit {0}) (goes_on_beside c t all) rows (all_each (λ r. Unit {0}) (λ r. tt) rows))))
+      (all_map (IsTouched all) (line_on Con t) (filter (is_continued c t all) rows)
+      (all_weaker (λ r. Unit {0} × (is_continued c t all r ≡ true)) (λ r. IsTouched all (line_on Con t r)) (λ r h. touched_zone all c r (and_parts (is_live t r) (goes_on c all r) h.1).1) (filter (is_continued c t all) rows)
+      (all_filter (λ r. Unit {0}) (is_continued c t all) rows (all_each (λ r. Unit {0}) (λ r. tt) rows))))
 
 intent_of : (counts : List Count) (t : ℕ) (earlier intents : List Intent) (p : Placed) → Has (placed_from counts t earlier intents) p → Has intents p.intent
 intent_of counts t earlier [] p h = absurd h

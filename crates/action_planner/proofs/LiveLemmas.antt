@@ -12,16 +12,16 @@ use Rattle.event_life.specs.Shown.{shown_at}
 use Rattle.hazard_board.specs.Board.{slice_of, live_in}
 use Rattle.hazard_board.proofs.LiveLemmas.{filter_within}
 use Rattle.hazard_board.proofs.Places.{live_in_zone}
-use Rattle.action_planner.specs.Lines.{goes_on, goes_on_beside, overlays, is_left}
+use Rattle.action_planner.specs.Lines.{goes_on, is_continued, overlays, is_left}
 use Rattle.action_planner.specs.Placed.{Placed}
 
 pub beside_live : (c : Category) (t : ℕ) (ps : List Placed) (z : Place) (rows some : List Row) → shown_at t some ≡ live_in z t rows →
-    filter (goes_on_beside c t ps) some ≡ filter (goes_on_beside c t ps) (slice_of z rows)
+    filter (is_continued c t ps) some ≡ filter (is_continued c t ps) (slice_of z rows)
 beside_live c t ps z rows some alike =
-    let live : (r : Row) → goes_on_beside c t ps r ≡ true → is_live t r ≡ true = λ r h. (and_parts (is_live t r) (goes_on c ps r) h).0 in
-    sym (filter_within (is_live t) (goes_on_beside c t ps) some live)
-    ∙ ap (filter (goes_on_beside c t ps)) (alike ∙ sym (live_in_zone z t rows))
-    ∙ filter_within (is_live t) (goes_on_beside c t ps) (slice_of z rows) live
+    let live : (r : Row) → is_continued c t ps r ≡ true → is_live t r ≡ true = λ r h. (and_parts (is_live t r) (goes_on c ps r) h).0 in
+    sym (filter_within (is_live t) (is_continued c t ps) some live)
+    ∙ ap (filter (is_continued c t ps)) (alike ∙ sym (live_in_zone z t rows))
+    ∙ filter_within (is_live t) (is_continued c t ps) (slice_of z rows) live
 
 any_step : (p q : Row → Bool) (b : Bool) (r : Row) (rows : List Row) → p r ≡ b → (q r ≡ true → p r ≡ true) → list_any q (filter p rows) ≡ list_any q rows → list_any q (filter p (r ∷ rows)) ≡ list_any q (r ∷ rows)
 any_step p q true r rows is own more = rw is (ap (λ (c : Bool). q r || c) more)

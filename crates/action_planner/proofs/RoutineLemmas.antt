@@ -16,7 +16,7 @@ use Rattle.event_numbers.specs.declared.Count.{Count}
 use Rattle.event_numbers.specs.Counts.{count_of}
 use Rattle.action_planner.specs.Conditions.{AreNumbered}
 use Rattle.action_planner.specs.Placed.{Placed, event_of_intent, placed_from, zones_of}
-use Rattle.action_planner.specs.Lines.{added_lines, finish_lines, goes_on_beside, is_near_end, is_overlaid, line_on, lines_from, lines_in, planned_lines, restate_lines}
+use Rattle.action_planner.specs.Lines.{added_lines, finish_lines, is_continued, is_near_end, is_overlaid, line_on, lines_from, lines_in, planned_lines, restate_lines}
 use Rattle.action_planner.proofs.LawfulLists.{all_append, all_each, all_map}
 use Rattle.action_planner.proofs.LawfulKeys.{each_intent, each_zone, either_action, put-no_routine}
 
@@ -65,4 +65,4 @@ module _ (rows : List Row) (t : ℕ) (all : List Placed) where
   pub routine_zero : (c : Category) → AllByRecursion IsZero all → AllByRecursion HasZero (planned_lines c rows t all)
   routine_zero c zeros = all_append HasZero (lines_from rows t all all) (added_lines c rows t all)
       (each_intent rows t all HasZero IsZero (λ p h. each_zone rows t all HasZero (λ z. Unit {0}) p.event p.intent (λ z u. zero_in p.event p.intent z h) (zones_of p.intent) (all_each (λ z. Unit {0}) (λ z. tt) (zones_of p.intent))) all zeros)
-      (all_map HasZero (line_on Con t) (filter (goes_on_beside c t all) rows) (all_each (λ r. HasZero (line_on Con t r)) (λ r h. cc) (filter (goes_on_beside c t all) rows)))
+      (all_map HasZero (line_on Con t) (filter (is_continued c t all) rows) (all_each (λ r. HasZero (line_on Con t r)) (λ r h. cc) (filter (is_continued c t all) rows)))

@@ -13,7 +13,7 @@ use Rattle.office_types.specs.declared.request.PutPart.{PutPart}
 use Rattle.event_life.specs.Products.{is_routine, row_at}
 use Rattle.event_life.proofs.Puts.{at_key}
 use Rattle.action_planner.specs.Placed.{Placed, zones_of}
-use Rattle.action_planner.specs.Lines.{added_lines, finish_lines, goes_on_beside, joined_row, line_on, lines_from, lines_in, planned_lines, put_line, put_line_on, restate_lines}
+use Rattle.action_planner.specs.Lines.{added_lines, finish_lines, is_continued, joined_row, line_on, lines_from, lines_in, planned_lines, put_line, put_line_on, restate_lines}
 use Rattle.action_planner.proofs.LawfulLists.{Has, all_append, all_each, all_filter, all_map, all_weaker, has_all}
 use Rattle.action_planner.proofs.LawfulKeys.{IsOn, each_intent, each_zone, lines_on}
 use Rattle.action_planner.proofs.LawfulLines.{found_has}
@@ -82,6 +82,6 @@ module _ (rows : List Row) (t : ℕ) (all : List Placed) where
   pub comes : (c : Category) → AllByRecursion (Comes rows all) (planned_lines c rows t all)
   comes c = all_append (Comes rows all) (lines_from rows t all all) (added_lines c rows t all)
       (each_intent rows t all (Comes rows all) (Has all) (λ p h. each_zone rows t all (Comes rows all) (λ z. Unit {0}) p.event p.intent (λ z u. in_zone p h p.intent refl z) (zones_of p.intent) (all_each (λ z. Unit {0}) (λ z. tt) (zones_of p.intent))) all (has_all all))
-      (all_map (Comes rows all) (line_on Con t) (filter (goes_on_beside c t all) rows)
-      (all_weaker (λ r. Has rows r × (goes_on_beside c t all r ≡ true)) (λ r. Comes rows all (line_on Con t r)) (λ r h. inl (record { row = r; there = h.0; event = refl; zone = refl; flood = refl })) (filter (goes_on_beside c t all) rows)
-      (all_filter (Has rows) (goes_on_beside c t all) rows (has_all rows))))
+      (all_map (Comes rows all) (line_on Con t) (filter (is_continued c t all) rows)
+      (all_weaker (λ r. Has rows r × (is_continued c t all r ≡ true)) (λ r. Comes rows all (line_on Con t r)) (λ r h. inl (record { row = r; there = h.0; event = refl; zone = refl; flood = refl })) (filter (is_continued c t all) rows)
+      (all_filter (Has rows) (is_continued c t all) rows (has_all rows))))

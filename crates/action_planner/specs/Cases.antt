@@ -150,7 +150,7 @@ pub record Restates (rows : List Row) (t : ℕ) (line : Line) : Type 0 where
   pub printed : PrintsRow t row line
 
 -- no intent is on the event in the zone, but one touches the zone: CON of a live row, if its event is of the draft's category and no flood event
-pub record GoesOnBeside (c : Category) (rows : List Row) (t : ℕ) (ps : List Placed) (line : Line) : Type 0 where
+pub record IsContinued (c : Category) (rows : List Row) (t : ℕ) (ps : List Placed) (line : Line) : Type 0 where
   pub unspoken : All (λ (p : Placed). ¬ SpeaksOf p line.event line.zone) ps
   pub touched : Any (λ (p : Placed). Contains (zones_of p.intent) line.zone) ps
   pub category : IsFollowedBy c line.event.hazard
@@ -173,7 +173,7 @@ Says rows t ps (Routine part) line = IsRoutine line
 
 -- the line of an event in a zone
 abbrev pub IsPlanned : Category → List Row → ℕ → List Placed → Line → Type 0
-IsPlanned c rows t ps line = Any (λ (p : Placed). SpeaksOf p line.event line.zone × Says rows t ps p.intent line) ps ⊎ GoesOnBeside c rows t ps line
+IsPlanned c rows t ps line = Any (λ (p : Placed). SpeaksOf p line.event line.zone × Says rows t ps p.intent line) ps ⊎ IsContinued c rows t ps line
 
 -- New events.
 

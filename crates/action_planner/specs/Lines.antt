@@ -169,16 +169,16 @@ follows c (Some facts) = category.eq-value.it facts.follows c
 abbrev pub goes_on : Category → List Placed → Row → Bool
 goes_on c ps row = follows c (facts_of row.event.hazard) && not (is_fl_phenomenon row.event.hazard) && list_any (touches row.zone) ps && not (list_any (speaks row.event row.zone) ps)
 
-abbrev pub goes_on_beside : Category → ℕ → List Placed → Row → Bool
-goes_on_beside c t ps row = is_live t row && goes_on c ps row
+abbrev pub is_continued : Category → ℕ → List Placed → Row → Bool
+is_continued c t ps row = is_live t row && goes_on c ps row
 
 abbrev pub added_lines : Category → List Row → ℕ → List Placed → List Line
-added_lines c rows t ps = map (line_on Con t) (filter (goes_on_beside c t ps) rows)
+added_lines c rows t ps = map (line_on Con t) (filter (is_continued c t ps) rows)
 
 -- those of the rows of some zones, zone by zone
 abbrev pub added_in : Category → List Row → ℕ → List Placed → List Place → List Line
 added_in c rows t ps [] = []
-added_in c rows t ps (z ∷ zones) = map (line_on Con t) (filter (goes_on_beside c t ps) (slice_of z rows)) ++ added_in c rows t ps zones
+added_in c rows t ps (z ∷ zones) = map (line_on Con t) (filter (is_continued c t ps) (slice_of z rows)) ++ added_in c rows t ps zones
 
 -- all lines of a draft
 abbrev pub planned_lines : Category → List Row → ℕ → List Placed → List Line

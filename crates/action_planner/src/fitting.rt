@@ -119,7 +119,7 @@ fn ascend(zones: &[Zone]) -> bool
 
 /// Whether the zones are distinct; sorts a copy in `sorted`.
 #[tactic(auto, using(crate::proofs::OnceLemmas::once_sorted))]
-fn stand_once_in(sorted: &mut [Zone], zones: &[Zone]) -> bool
+fn are_distinct_in(sorted: &mut [Zone], zones: &[Zone]) -> bool
     requires { length sorted.old ≡ length zones.now }
     ensures { result ≡ stand_once zones.now }
 {
@@ -129,13 +129,13 @@ fn stand_once_in(sorted: &mut [Zone], zones: &[Zone]) -> bool
 }
 
 /// Whether the zones are distinct, whatever their order. Sorts a copy on the stack.
-fn stand_once_unordered(zones: &[Zone]) -> bool
+fn are_distinct_unordered(zones: &[Zone]) -> bool
     requires some { 1 ≤ length zones.now }
     requires few { length zones.now ≤ 600 }
     ensures { result ≡ stand_once zones.now }
 {
     let mut sorted = [zones[0]; MOST_ZONES];
-    stand_once_in(&mut sorted[..zones.len()], zones)
+    are_distinct_in(&mut sorted[..zones.len()], zones)
 }
 
 /// Whether the zones are distinct. Ascending zones, the usual case, are not copied.
@@ -147,7 +147,7 @@ fn stand_once(zones: &[Zone]) -> bool
     if ascend(zones) {
         return true;
     }
-    stand_once_unordered(zones)
+    are_distinct_unordered(zones)
 }
 
 /// Whether there are 1 to 600 zones, all distinct.

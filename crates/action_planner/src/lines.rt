@@ -8,7 +8,7 @@ ghost use Rattle.hazard_types.specs.declared.codes.Action.TheVariants.{Con};
 ghost use Rattle.event_life.specs.Products.{by_key};
 ghost use Rattle.hazard_board.specs.Board.{slice_of};
 ghost use Rattle.action_planner.specs.Placed.{zones_of, touches, speaks};
-ghost use Rattle.action_planner.specs.Lines.{line_on, is_near_end, finishing_action, finish_lines, restate_lines, lines_in, lines_in_zones, lines_from, routine_line, follows, goes_on, goes_on_beside, added_in, added_lines, planned_lines};
+ghost use Rattle.action_planner.specs.Lines.{line_on, is_near_end, finishing_action, finish_lines, restate_lines, lines_in, lines_in_zones, lines_from, routine_line, follows, goes_on, is_continued, added_in, added_lines, planned_lines};
 ghost use Rattle.action_planner.specs.Sending.{have_finish, is_finish, opening_of};
 
 use crate::placed::{Placed, zones_of};
@@ -200,8 +200,8 @@ fn goes_on(category: Category, spoken: &Spoken, row: &Row) -> bool
 }
 
 /// Whether a row is live and gets an added `CON` line.
-fn goes_on_beside(category: Category, t: Minute, spoken: &Spoken, row: &Row) -> bool
-    ensures { result ≡ goes_on_beside category t spoken.now row.now }
+fn is_continued(category: Category, t: Minute, spoken: &Spoken, row: &Row) -> bool
+    ensures { result ≡ is_continued category t spoken.now row.now }
 {
     is_live(row, t) && goes_on(category, spoken, row)
 }
@@ -215,10 +215,10 @@ fn add_going_on(
     rows: &[Row],
 ) -> Result<(), Oom>
     ensures { OnOk result (lines.new ≡ lines.old
-        ++ map (line_on Con t) (filter (goes_on_beside category t spoken.now) rows.now)) }
+        ++ map (line_on Con t) (filter (is_continued category t spoken.now) rows.now)) }
 {
     for row in rows {
-        if goes_on_beside(category, t, spoken, row) {
+        if is_continued(category, t, spoken, row) {
             add_line(lines, &line_on(Action::Con, t, row))?;
         }
     }
@@ -235,7 +235,7 @@ fn add_in_zone(
 ) -> Result<(), Oom>
     ensures lines { OnOk result (lines.new ≡ lines.old
         ++ map (line_on Con sending.now.minute)
-        (filter (goes_on_beside category sending.now.minute sending.now.intents)
+        (filter (is_continued category sending.now.minute sending.now.intents)
         (slice_of zone.now sending.now.rows))) }
     ensures order { IsStrictlySortedBy by_key sending.now.rows }
 {
@@ -263,7 +263,7 @@ fn add_in_zones(
 }
 
 /// Adds `CON` for all rows that get an added line. Looks only at the zones of the intents.
-fn add_beside(
+fn add_continued(
     alloc: Global,
     lines: &mut List<Line>,
     sending: &Sending,
@@ -294,6 +294,6 @@ pub fn planned_lines(
 {
     let mut lines = List::new(alloc);
     add_intent_lines(&mut lines, sending)?;
-    add_beside(alloc, &mut lines, sending, category)?;
+    add_continued(alloc, &mut lines, sending, category)?;
     Ok(lines)
 }

@@ -15,13 +15,13 @@ use Rattle.program_ends.proofs.Finishing.{Tells, eight, has_written, no_other, t
 use Rattle.program_ends.proofs.Telling.{begins_self}
 use Rattle.archive_report.specs.declared.tally.Tally.{Tally}
 use Rattle.archive_report.specs.declared.words.Asked.{Asked}
-use Rattle.archive_report.specs.Pieces.{TellsTo, ReadsAll, Reports, Halts, count_listed, rest_text}
+use Rattle.archive_report.specs.Pieces.{WritesTo, ReadsAll, Reports, Halts, count_listed, rest_text}
 use Rattle.archive_report.specs.Report.{report, listed}
 use Rattle.archive_report.specs.Runs.{IsArchiveRun, lines_told}
 use Rattle.archive_report.proofs.Fronts.{report_told, listed_told}
 
 -- the rest of the report, behind the lines of the products
-module _ (asked : Asked) (limit : ℕ) (tally : Tally) (before mid : Streams) (x : Unit {0}) (input : TellsTo asked limit before mid (ReadsAll asked tally) (Ok x)) where
+module _ (asked : Asked) (limit : ℕ) (tally : Tally) (before mid : Streams) (x : Unit {0}) (input : WritesTo asked limit before mid (ReadsAll asked tally) (Ok x)) where
   all : ReadsAll asked tally input.read input.text x
   all = input.ended.2
 
@@ -31,7 +31,7 @@ module _ (asked : Asked) (limit : ℕ) (tally : Tally) (before mid : Streams) (x
   whole : input.written ++ rest_text asked tally ≡ report asked input.read
   whole = ap (λ (t : List ℕ). t ++ rest_text asked tally) lines_written ∙ report_told asked input.read tally all.0
 
-  ends_reported : (n : ℕ) (after : Outflow) → Adds mid.output.taken after.taken (rest_text asked tally) → n ≡ count_listed tally → TellsTo asked limit before (streams mid.input after) (Reports asked) (Ok n)
+  ends_reported : (n : ℕ) (after : Outflow) → Adds mid.output.taken after.taken (rest_text asked tally) → n ≡ count_listed tally → WritesTo asked limit before (streams mid.input after) (Reports asked) (Ok n)
   ends_reported n after adds n_is = record {
     read = input.read;
     text = report asked input.read;
@@ -55,7 +55,7 @@ module _ (asked : Asked) (limit : ℕ) (tally : Tally) (before mid : Streams) (x
   no_long why (inl e) h = let same : stop.OutOfMemory ≡ stop.TooLong = sym e ∙ h in cc
   no_long why (inr e) h = let same : stop.Write ≡ stop.TooLong = sym e ∙ h in cc
 
-  ends_halted : (why : Stop) (after : Outflow) → Halts mid.output after (rest_text asked tally) why → TellsTo asked limit before (streams mid.input after) (Reports asked) (Err why)
+  ends_halted : (why : Stop) (after : Outflow) → Halts mid.output after (rest_text asked tally) why → WritesTo asked limit before (streams mid.input after) (Reports asked) (Err why)
   ends_halted why after halts =
       let text = input.written ++ halts.front.front in
       let begins : Begins text (report asked input.read) = (
@@ -81,13 +81,13 @@ module _ (asked : Asked) (limit : ℕ) (tally : Tally) (before mid : Streams) (x
       reason a b e = cc
 
   pub ends_rest : (after : Outflow) (result : Result ℕ Stop) → OnOk result (Adds mid.output.taken after.taken (rest_text asked tally)) → IfOk result (λ n. n ≡ count_listed tally) → IfErr result (Halts mid.output after (rest_text asked tally))
-      → TellsTo asked limit before (streams mid.input after) (Reports asked) result
+      → WritesTo asked limit before (streams mid.input after) (Reports asked) result
   ends_rest after (Ok n) adds is halted = ends_reported n after adds is
   ends_rest after (Err why) adds is halted = ends_halted why after halted
 
 module _ (asked : Asked) (limit : ℕ) (before after : Streams) where
   -- a run that told the whole report
-  pub run_whole : (n status : ℕ) → TellsTo asked limit before after (Reports asked) (Ok n) → after.input.faults ≡ before.input.faults → after.output.faults ≡ before.output.faults
+  pub run_whole : (n status : ℕ) → WritesTo asked limit before after (Reports asked) (Ok n) → after.input.faults ≡ before.input.faults → after.output.faults ≡ before.output.faults
       → ((status ≡ 0) × (n ≡ 0)) ⊎ ((status ≡ 3) × (n ≢ 0)) → IsArchiveRun asked limit before after status
   run_whole n status t read_steady write_steady which =
       let done : Reports asked t.read t.text n = t.ended.2 in
@@ -130,7 +130,7 @@ no_good status own told p q (inr e) = q (sym (told (λ h. omega (arith, e, h))) 
 module _ (asked : Asked) (limit : ℕ) (before after : Streams) (mid : Outflow) (status : ℕ) where
   -- a run that ended early, for each reason
 
-  read_failed : (t : TellsTo asked limit before (streams after.input mid) (Reports asked) (Err stop.Read)) → Rose before.input.faults after.input.faults → Telling t.text before.output after.output (Some ReadFault) status → IsArchiveRun asked limit before after status
+  read_failed : (t : WritesTo asked limit before (streams after.input mid) (Reports asked) (Err stop.Read)) → Rose before.input.faults after.input.faults → Telling t.text before.output after.output (Some ReadFault) status → IsArchiveRun asked limit before after status
   read_failed t rose telling =
       let own : status ≢ 8 → status ≡ 7 = λ no. (telling.told.others no).0 in
       record {
@@ -149,7 +149,7 @@ module _ (asked : Asked) (limit : ℕ) (before after : Streams) (mid : Outflow) 
         others = elim (eight status) [ inl h ↦ inr (inr (inr (inl h))) | inr h ↦ inr (inr (inl (own h))) ];
       }
 
-  too_long : (t : TellsTo asked limit before (streams after.input mid) (Reports asked) (Err stop.TooLong)) → after.input.faults ≡ before.input.faults → Telling t.text before.output after.output (Some InputTooLong) status → IsArchiveRun asked limit before after status
+  too_long : (t : WritesTo asked limit before (streams after.input mid) (Reports asked) (Err stop.TooLong)) → after.input.faults ≡ before.input.faults → Telling t.text before.output after.output (Some InputTooLong) status → IsArchiveRun asked limit before after status
   too_long t steady telling =
       let own : status ≢ 8 → status ≡ 13 = λ no. (telling.told.others no).0 in
       record {
@@ -168,7 +168,7 @@ module _ (asked : Asked) (limit : ℕ) (before after : Streams) (mid : Outflow) 
         others = elim (eight status) [ inl h ↦ inr (inr (inr (inl h))) | inr h ↦ inr (inr (inr (inr (inr (own h))))) ];
       }
 
-  no_memory : (t : TellsTo asked limit before (streams after.input mid) (Reports asked) (Err stop.OutOfMemory)) → after.input.faults ≡ before.input.faults → Telling t.text before.output after.output (Some OutOfMemory) status → IsArchiveRun asked limit before after status
+  no_memory : (t : WritesTo asked limit before (streams after.input mid) (Reports asked) (Err stop.OutOfMemory)) → after.input.faults ≡ before.input.faults → Telling t.text before.output after.output (Some OutOfMemory) status → IsArchiveRun asked limit before after status
   no_memory t steady telling =
       let own : status ≢ 8 → status ≡ 12 = λ no. (telling.told.others no).0 in
       record {
@@ -187,7 +187,7 @@ module _ (asked : Asked) (limit : ℕ) (before after : Streams) (mid : Outflow) 
         others = elim (eight status) [ inl h ↦ inr (inr (inr (inl h))) | inr h ↦ inr (inr (inr (inr (inl (own h))))) ];
       }
 
-  write_failed : (t : TellsTo asked limit before (streams after.input mid) (Reports asked) (Err stop.Write)) → after.input.faults ≡ before.input.faults → Telling t.text before.output after.output (Some WriteFault) status → IsArchiveRun asked limit before after status
+  write_failed : (t : WritesTo asked limit before (streams after.input mid) (Reports asked) (Err stop.Write)) → after.input.faults ≡ before.input.faults → Telling t.text before.output after.output (Some WriteFault) status → IsArchiveRun asked limit before after status
   write_failed t steady telling =
       let own : status ≢ 8 → status ≡ 8 = λ no. (telling.told.others no).0 in
       let is : status ≡ 8 = elim (eight status) [ inl h ↦ h | inr h ↦ own h ] in
@@ -207,7 +207,7 @@ module _ (asked : Asked) (limit : ℕ) (before after : Streams) (mid : Outflow) 
         others = inr (inr (inr (inl is)));
       }
 
-  pub run_halted : (why : Stop) (t : TellsTo asked limit before (streams after.input mid) (Reports asked) (Err why)) → IsCauseOf {T = ℕ} stop.Read before.input.faults after.input.faults (Err why) → Telling t.text before.output after.output (Some (end_of why)) status
+  pub run_halted : (why : Stop) (t : WritesTo asked limit before (streams after.input mid) (Reports asked) (Err why)) → IsCauseOf {T = ℕ} stop.Read before.input.faults after.input.faults (Err why) → Telling t.text before.output after.output (Some (end_of why)) status
       → IsArchiveRun asked limit before after status
   run_halted stop.Read t cause telling = read_failed t (cause.rose refl) telling
   run_halted stop.Write t cause telling = write_failed t (cause.steady (λ e. absurd (cc))) telling
@@ -240,7 +240,7 @@ module _ (asked : Asked) (limit : ℕ) (before after : Streams) (status : ℕ) (
       some (inr (inr (inr (inr (inr h))))) = inr (inr (inr h))
 
 -- a run that halted, once its end was told
-pub run_ended : (asked : Asked) (limit : ℕ) (before after : Streams) (mid : Outflow) (status : ℕ) (why : Stop) (end : End) → TellsTo asked limit before (streams after.input mid) (Reports asked) (Err why) → IsCauseOf {T = ℕ} stop.Read before.input.faults after.input.faults (Err why) → IsCauseOf {T = ℕ} stop.Write before.output.faults mid.faults (Err why)
+pub run_ended : (asked : Asked) (limit : ℕ) (before after : Streams) (mid : Outflow) (status : ℕ) (why : Stop) (end : End) → WritesTo asked limit before (streams after.input mid) (Reports asked) (Err why) → IsCauseOf {T = ℕ} stop.Read before.input.faults after.input.faults (Err why) → IsCauseOf {T = ℕ} stop.Write before.output.faults mid.faults (Err why)
     → end ≡ end_of why
     → Tells mid after.output (Some end) status
     → IsArchiveRun asked limit before after status

@@ -10,7 +10,7 @@ use Rattle.product_frame.specs.declared.frame.FrameSegment.{FrameSegment}
 use Rattle.product_frame.specs.declared.frame.Pair.{Pair}
 use Rattle.product_decoder.specs.Decoded.{pair_of, decoded_of}
 use Rattle.product_decoder.specs.FrameLines.{is_pair_by}
-use Rattle.product_decoder.specs.ReaderModel.{is_by, line_said, said_by}
+use Rattle.product_decoder.specs.ReaderModel.{is_by, zone_line_of_pair, said_by}
 use Rattle.product_decoder.specs.declared.types.ZonePair.{ZonePair}
 use Rattle.archive_report.specs.declared.words.Asked.{Asked}
 use Rattle.archive_report.specs.Readings.{count_in}
@@ -19,8 +19,8 @@ module _ (office : List ℕ) (class : Class) where
   abbrev count : List ZoneLine → ℕ
   count said = length (said_by office class (map pair_of said))
 
-  first_append : (by : Bool) (s : ZoneLine) (kept more : List ZonePair) (n : ℕ) → length (map line_said kept) ≡ length (map line_said more) + n
-      → length (map line_said (cond by (pair_of s ∷ kept) kept)) ≡ length (map line_said (cond by (pair_of s ∷ more) more)) + n
+  first_append : (by : Bool) (s : ZoneLine) (kept more : List ZonePair) (n : ℕ) → length (map zone_line_of_pair kept) ≡ length (map zone_line_of_pair more) + n
+      → length (map zone_line_of_pair (cond by (pair_of s ∷ kept) kept)) ≡ length (map zone_line_of_pair (cond by (pair_of s ∷ more) more)) + n
   first_append true s kept more n h = omega (arith, h)
   first_append false s kept more n h = h
 
@@ -28,8 +28,8 @@ module _ (office : List ℕ) (class : Class) where
   count_append [] b = omega arith
   count_append (s ∷ a) b = first_append (is_by office class (pair_of s)) s (filter (is_by office class) (map pair_of (a ++ b))) (filter (is_by office class) (map pair_of a)) (count b) (count_append a b)
 
-  first_zone : (by : Bool) (z : Place) (p : Pair) (kept : List ZonePair) (pairs : List Pair) → length (map line_said kept) ≡ length pairs
-      → length (map line_said (cond by (pair_of (record { zone = z; vtec = p.vtec; flood = p.flood }) ∷ kept) kept)) ≡ length (cond by (p ∷ pairs) pairs)
+  first_zone : (by : Bool) (z : Place) (p : Pair) (kept : List ZonePair) (pairs : List Pair) → length (map zone_line_of_pair kept) ≡ length pairs
+      → length (map zone_line_of_pair (cond by (pair_of (record { zone = z; vtec = p.vtec; flood = p.flood }) ∷ kept) kept)) ≡ length (cond by (p ∷ pairs) pairs)
   first_zone true z p kept pairs h = ap suc h
   first_zone false z p kept pairs h = h
 

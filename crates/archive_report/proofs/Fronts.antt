@@ -17,7 +17,7 @@ use Rattle.archive_report.specs.declared.tally.Tally.{Tally}
 use Rattle.archive_report.specs.declared.words.Asked.{Asked}
 use Rattle.archive_report.specs.Pieces.{IsTallied, count_listed, rest_text}
 use Rattle.archive_report.specs.Report.{read_at, readings_of, taken_in, products_of, number_in, numbers_from, faults_in, product_line, product_lines, findings_text, shown_text, listed, last_line, report}
-use Rattle.archive_report.specs.Runs.{IsFinishedTold, IsEarly, lines_told}
+use Rattle.archive_report.specs.Runs.{IsFinishedWritten, IsEarly, lines_told}
 
 abbrev pub Readings : Type 0
 Readings = List (Result Decoded FrameFault)
@@ -88,7 +88,7 @@ first_early asked read rest texts first more = first_begins asked (read ++ more)
 begins_alike : (a b text : List ℕ) → a ≡ b → Begins b text → Begins a text
 begins_alike a b text is begins = (begins.0, begins.1 ∙ ap (λ (t : List ℕ). t ++ begins.0) (sym is))
 
-pub told_early : (asked : Asked) (read told : List ℕ) → IsFinishedTold asked read told → IsEarly asked read told
+pub told_early : (asked : Asked) (read told : List ℕ) → IsFinishedWritten asked read told → IsEarly asked read told
 told_early asked read told h more =
     begins_alike told (lines_told asked h.0) (report asked (read ++ more)) h.2 (first_early asked read h.1.rest h.0 h.1.first more)
 

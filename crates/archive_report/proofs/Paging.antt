@@ -4,7 +4,7 @@ use Rattle.std.proofs.lemmas.Grind.{flat_map-append}
 use Rattle.std.proofs.lemmas.List.{take-append-drop}
 use Rattle.byte_streams.specs.Flows.{Adds, Outflow}
 use Rattle.byte_streams.proofs.Pieces.{adds_both}
-use Rattle.program_ends.specs.Ends.{AddsFront}
+use Rattle.program_ends.specs.Ends.{AddsPrefix}
 use Rattle.program_ends.proofs.Answering.{adds_none}
 use Rattle.program_ends.specs.declared.reading.Stop.{Stop}
 use Rattle.program_ends.specs.declared.reading.Stop.TheVariants as stop
@@ -34,19 +34,19 @@ pages_all before after out out' text none p = adds_alike (sym (ap (λ (t : List 
     adds_alike : p.written ≡ out ++ text → Adds before.taken after.taken p.written → Adds before.taken after.taken (out ++ text)
     adds_alike is adds = rw is at adds
 
-pub front_none : (before : Outflow) (text : List ℕ) → AddsFront before.taken before.taken text
+pub front_none : (before : Outflow) (text : List ℕ) → AddsPrefix before.taken before.taken text
 front_none before text = record { front = []; begins = (text, refl); adds = adds_none before.taken }
 
-pub front_alike : (before after : Outflow) (a b : List ℕ) → a ≡ b → AddsFront before.taken after.taken a → AddsFront before.taken after.taken b
+pub front_alike : (before after : Outflow) (a b : List ℕ) → a ≡ b → AddsPrefix before.taken after.taken a → AddsPrefix before.taken after.taken b
 front_alike before after a b is f = record { front = f.front; begins = (f.begins.0, sym is ∙ f.begins.1); adds = f.adds }
 
 -- a front of a text is one of a longer text
-pub front_longer : (before after : Outflow) (a more : List ℕ) → AddsFront before.taken after.taken a → AddsFront before.taken after.taken (a ++ more)
+pub front_longer : (before after : Outflow) (a more : List ℕ) → AddsPrefix before.taken after.taken a → AddsPrefix before.taken after.taken (a ++ more)
 front_longer before after a more f =
     record { front = f.front; begins = (f.begins.0 ++ more, ap (λ (t : List ℕ). t ++ more) f.begins.1 ∙ append_assoc f.front f.begins.0 more); adds = f.adds }
 
 -- pages, and then a front of the text behind them
-pub front_then : (before mid after : Outflow) (out out1 a b : List ℕ) → Pages before mid out out1 a → AddsFront mid.taken after.taken (out1 ++ b) → AddsFront before.taken after.taken (out ++ (a ++ b))
+pub front_then : (before mid after : Outflow) (out out1 a b : List ℕ) → Pages before mid out out1 a → AddsPrefix mid.taken after.taken (out1 ++ b) → AddsPrefix before.taken after.taken (out ++ (a ++ b))
 front_then before mid after out out1 a b p f = record {
   front = p.written ++ f.front;
   begins = (
@@ -57,11 +57,11 @@ front_then before mid after out out1 a b p f = record {
 }
 
 -- pages of a text are a front of it
-pub front_pages : (before after : Outflow) (out out' a b : List ℕ) → Pages before after out out' a → AddsFront before.taken after.taken (out ++ (a ++ b))
+pub front_pages : (before after : Outflow) (out out' a b : List ℕ) → Pages before after out out' a → AddsPrefix before.taken after.taken (out ++ (a ++ b))
 front_pages before after out out' a b p = front_then before after after out out' a b p (front_none after (out' ++ b))
 
 -- what was written of a whole text, and then a front of the text behind it
-pub front_behind : (before mid after : Outflow) (a b : List ℕ) → Adds before.taken mid.taken a → AddsFront mid.taken after.taken b → AddsFront before.taken after.taken (a ++ b)
+pub front_behind : (before mid after : Outflow) (a b : List ℕ) → Adds before.taken mid.taken a → AddsPrefix mid.taken after.taken b → AddsPrefix before.taken after.taken (a ++ b)
 front_behind before mid after a b adds f =
     record { front = a ++ f.front; begins = (f.begins.0, ap (λ (t : List ℕ). a ++ t) f.begins.1 ∙ sym (append_assoc a f.front f.begins.0)); adds = adds_both _ _ _ _ _ _ adds f.adds refl }
 

@@ -5,7 +5,7 @@ use Rattle.byte_streams.specs.Flows.{Takes, Adds, Inflow, IsAtEnd, Outflow, Stre
 use Rattle.byte_streams.proofs.Pieces.{adds_both}
 use Rattle.product_decoder.specs.Decoded.{decode}
 use Rattle.product_decoder.specs.Feeding.{Fed, products_in}
-use Rattle.program_ends.specs.Ends.{Begins, AddsFront}
+use Rattle.program_ends.specs.Ends.{Begins, AddsPrefix}
 use Rattle.program_ends.specs.Pieces.{Extent, extent, HasRead, IsPiece, IsStopped, IsWhole}
 use Rattle.program_ends.specs.declared.reading.Stop.{Stop}
 use Rattle.program_ends.specs.declared.reading.Stop.TheVariants as stop
@@ -14,9 +14,9 @@ use Rattle.program_ends.proofs.Piecewise.{read_none, read_more, read_whole}
 use Rattle.program_ends.proofs.Telling.{begins_self}
 use Rattle.archive_report.specs.declared.tally.Tally.{Tally}
 use Rattle.archive_report.specs.declared.words.Asked.{Asked}
-use Rattle.archive_report.specs.Pieces.{IsTally, IsFresh, CountsAll, Waits, TellsEach, TellsPiece, HaltsPiece, IsTallied, TellsTo, ReadsAll}
+use Rattle.archive_report.specs.Pieces.{IsTally, IsFresh, CountsAll, Waits, WritesEach, WritesPiece, HaltsPiece, IsTallied, WritesTo, ReadsAll}
 use Rattle.archive_report.specs.Report.{products_of, numbers_from, product_lines}
-use Rattle.archive_report.specs.Runs.{HasOne, IsFinishedTold, IsEarly, IsFront, lines_told}
+use Rattle.archive_report.specs.Runs.{HasOne, IsFinishedWritten, IsEarly, IsFront, lines_told}
 use Rattle.archive_report.proofs.Fronts.{Readings, lines-append, products-append, numbers-append, faults-append, first_begins, first_early, early_longer}
 use Rattle.archive_report.proofs.Taking.{few_products}
 
@@ -91,7 +91,7 @@ module _ (asked : Asked) (limit : ℕ) (tally : Tally) (before mid : Streams) (f
 
   -- one piece more was pushed, and its products told
   pub ran_next : (new : Extent) (part : List ℕ) (fed fed' : Fed) (tally' : Tally) (after : Streams) → IsPiece now new mid.input.left after.input.left part → fed.rest ≡ feed.rest ++ part → fed.ended ≡ false
-      → TellsPiece asked fed fed' tally tally' mid.output after.output → Ran asked limit tally' before after fed' new
+      → WritesPiece asked fed fed' tally tally' mid.output after.output → Ran asked limit tally' before after fed' new
   ran_next new part fed fed' tally' after next pushed going piece =
       let out = piece.0 in
       let each = piece.1 in
@@ -108,7 +108,7 @@ module _ (asked : Asked) (limit : ℕ) (tally : Tally) (before mid : Streams) (f
         less = omega (arith, each.less, ran.less, ap length pushed, length-append feed.rest part, length-append ran.seen part);
       }
 
-  told : IsFinishedTold asked ran.seen (lines_told asked ran.texts)
+  told : IsFinishedWritten asked ran.seen (lines_told asked ran.texts)
   told = (
     ran.texts,
     record {
@@ -123,13 +123,13 @@ module _ (asked : Asked) (limit : ℕ) (tally : Tally) (before mid : Streams) (f
   early = first_early asked ran.seen feed.rest ran.texts ran.first
 
   -- there was no further piece: a read failed, or the input goes on beyond the limit
-  pub ends_stopped : {T : Type 0} (done : List ℕ → List ℕ → T → Type 0) (new : Extent) (input : Inflow) (why : Stop) → IsStopped now new mid.input.left input.left why → TellsTo asked limit before (streams input mid.output) done (Err why)
+  pub ends_stopped : {T : Type 0} (done : List ℕ → List ℕ → T → Type 0) (new : Extent) (input : Inflow) (why : Stop) → IsStopped now new mid.input.left input.left why → WritesTo asked limit before (streams input mid.output) done (Err why)
   ends_stopped {T} done new input why stopped = by_reason stopped.reasons
     where
       reason : (other : Stop) → ◌≡◌ {A = Result T Stop} (Err why) (Err other) → why ≡ other
       reason other e = cc
 
-      so : (why ≡ stop.Read → length ran.has.read ≤ limit) → (why ≡ stop.TooLong → length ran.has.read ≡ limit + 1) → TellsTo asked limit before (streams input mid.output) done (Err why)
+      so : (why ≡ stop.Read → length ran.has.read ≤ limit) → (why ≡ stop.TooLong → length ran.has.read ≡ limit + 1) → WritesTo asked limit before (streams input mid.output) done (Err why)
       so few long = record {
         read = ran.has.read;
         text = lines_told asked ran.texts;
@@ -140,21 +140,21 @@ module _ (asked : Asked) (limit : ℕ) (tally : Tally) (before mid : Streams) (f
         ended = tt;
         read_fault = λ e. (
           few (reason stop.Read e),
-          subst (λ (bytes : List ℕ). IsFinishedTold asked bytes (lines_told asked ran.texts)) (ran.has.front ∙ take_all limit ran.has.read (few (reason stop.Read e))) told,
+          subst (λ (bytes : List ℕ). IsFinishedWritten asked bytes (lines_told asked ran.texts)) (ran.has.front ∙ take_all limit ran.has.read (few (reason stop.Read e))) told,
         );
-        too_long = λ e. (long (reason stop.TooLong e), subst (λ (bytes : List ℕ). IsFinishedTold asked bytes (lines_told asked ran.texts)) ran.has.front told);
+        too_long = λ e. (long (reason stop.TooLong e), subst (λ (bytes : List ℕ). IsFinishedWritten asked bytes (lines_told asked ran.texts)) ran.has.front told);
         front = inl (early_read asked limit ran.seen ran.has.read (lines_told asked ran.texts) ran.has.front early);
         begins = begins_self (lines_told asked ran.texts);
         whole = λ _. refl;
       }
 
-      by_reason : (((why ≡ stop.Read) × (now.total ≤ now.limit)) ⊎ ((why ≡ stop.TooLong) × (now.total ≡ now.limit + 1))) → TellsTo asked limit before (streams input mid.output) done (Err why)
+      by_reason : (((why ≡ stop.Read) × (now.total ≤ now.limit)) ⊎ ((why ≡ stop.TooLong) × (now.total ≡ now.limit + 1))) → WritesTo asked limit before (streams input mid.output) done (Err why)
       by_reason (inl h) = so (λ _. omega (arith, h.1, ran.has.limit_is, ran.has.total_is)) (λ e. let same : stop.Read ≡ stop.TooLong = sym h.0 ∙ e in absurd (cc))
       by_reason (inr h) = so (λ e. let same : stop.TooLong ≡ stop.Read = sym h.0 ∙ e in absurd (cc)) (λ _. omega (arith, h.1, ran.has.limit_is, ran.has.total_is))
 
   -- memory lacked, with no product told
   lacks : {T : Type 0} (done : List ℕ → List ℕ → T → Type 0) (read : List ℕ) (after : Streams) → Takes before.input.left after.input.left read → length read ≤ limit + 1 → IsEarly asked read (lines_told asked ran.texts) → after.output.taken ≡ mid.output.taken
-      → TellsTo asked limit before after done (Err stop.OutOfMemory)
+      → WritesTo asked limit before after done (Err stop.OutOfMemory)
   lacks done read after takes within is same = record {
     read = read;
     text = lines_told asked ran.texts;
@@ -171,20 +171,20 @@ module _ (asked : Asked) (limit : ℕ) (tally : Tally) (before mid : Streams) (f
   }
 
   -- memory lacked for a piece that was read
-  pub ends_memory : {T : Type 0} (done : List ℕ → List ℕ → T → Type 0) (new : Extent) (part : List ℕ) (after : Streams) → IsPiece now new mid.input.left after.input.left part → after.output.taken ≡ mid.output.taken → TellsTo asked limit before after done (Err stop.OutOfMemory)
+  pub ends_memory : {T : Type 0} (done : List ℕ → List ℕ → T → Type 0) (new : Extent) (part : List ℕ) (after : Streams) → IsPiece now new mid.input.left after.input.left part → after.output.taken ≡ mid.output.taken → WritesTo asked limit before after done (Err stop.OutOfMemory)
   ends_memory done new part after next same =
       let has = read_more limit now before.input.left mid.input.left ran.seen ran.has new after.input.left part next in
       let text = lines_told asked ran.texts in
       lacks done has.read after has.takes has.most (early_read asked limit (ran.seen ++ part) has.read text has.front (early_longer asked ran.seen part text early)) same
 
   -- a front of some lines behind those that were written
-  front_behind : (out text : List ℕ) (after : Outflow) → lines_told asked ran.texts ++ out ≡ text → (front : AddsFront mid.output.taken after.taken out) → Begins (lines_told asked ran.texts ++ front.front) text
+  front_behind : (out text : List ℕ) (after : Outflow) → lines_told asked ran.texts ++ out ≡ text → (front : AddsPrefix mid.output.taken after.taken out) → Begins (lines_told asked ran.texts ++ front.front) text
   front_behind out text after is front =
       (front.begins.0, sym is ∙ ap (λ (t : List ℕ). lines_told asked ran.texts ++ t) front.begins.1 ∙ sym (append_assoc (lines_told asked ran.texts) front.front front.begins.0))
 
   -- a write of the lines of a piece that was pushed failed
   ends_write : {T : Type 0} (done : List ℕ → List ℕ → T → Type 0) (new : Extent) (part : List ℕ) (fed fed' : Fed) (tally' : Tally) (out : List ℕ) (after : Streams) → IsPiece now new mid.input.left after.input.left part → fed.rest ≡ feed.rest ++ part → fed.ended ≡ false
-      → TellsEach asked fed fed' tally tally' [] out → AddsFront mid.output.taken after.output.taken out → TellsTo asked limit before after done (Err stop.Write)
+      → WritesEach asked fed fed' tally tally' [] out → AddsPrefix mid.output.taken after.output.taken out → WritesTo asked limit before after done (Err stop.Write)
   ends_write done new part fed fed' tally' out after next pushed going each front =
       let has = read_more limit now before.input.left mid.input.left ran.seen ran.has new after.input.left part next in
       let texts = ran.texts ++ each.texts in
@@ -209,17 +209,17 @@ module _ (asked : Asked) (limit : ℕ) (tally : Tally) (before mid : Streams) (f
 
   -- telling the products of a piece halted
   pub ends_piece : {T : Type 0} (done : List ℕ → List ℕ → T → Type 0) (new : Extent) (part : List ℕ) (fed : Fed) (why : Stop) (after : Streams) → IsPiece now new mid.input.left after.input.left part → fed.rest ≡ feed.rest ++ part → fed.ended ≡ false
-      → HaltsPiece asked fed tally mid.output after.output why → TellsTo asked limit before after done (Err why)
+      → HaltsPiece asked fed tally mid.output after.output why → WritesTo asked limit before after done (Err why)
   ends_piece done new part fed why after next pushed going halts = by_reason halts.reasons
     where
-      by_reason : ((why ≡ stop.OutOfMemory) ⊎ (why ≡ stop.Write)) → TellsTo asked limit before after done (Err why)
-      by_reason (inl e) = subst (λ (w : Stop). TellsTo asked limit before after done (Err w)) (sym e) (ends_memory done new part after next (halts.no_memory e))
+      by_reason : ((why ≡ stop.OutOfMemory) ⊎ (why ≡ stop.Write)) → WritesTo asked limit before after done (Err why)
+      by_reason (inl e) = subst (λ (w : Stop). WritesTo asked limit before after done (Err w)) (sym e) (ends_memory done new part after next (halts.no_memory e))
       by_reason (inr e) =
           let h = halts.write_fault e in
-          subst (λ (w : Stop). TellsTo asked limit before after done (Err w)) (sym e) (ends_write done new part fed h.0 h.1 h.2 after next pushed going h.3 h.4)
+          subst (λ (w : Stop). WritesTo asked limit before after done (Err w)) (sym e) (ends_write done new part fed h.0 h.1 h.2 after next pushed going h.3 h.4)
 
   -- the last products, once the input's end was read
-  module _ (fed fed' : Fed) (tally' : Tally) (out : List ℕ) (same : fed.rest ≡ feed.rest) (over : fed.ended ≡ true) (each : TellsEach asked fed fed' tally tally' [] out) (after : Streams) (takes : Takes before.input.left after.input.left ran.seen) (at_end : IsAtEnd after.input.left) (few : length ran.seen ≤ limit) where
+  module _ (fed fed' : Fed) (tally' : Tally) (out : List ℕ) (same : fed.rest ≡ feed.rest) (over : fed.ended ≡ true) (each : WritesEach asked fed fed' tally tally' [] out) (after : Streams) (takes : Takes before.input.left after.input.left ran.seen) (at_end : IsAtEnd after.input.left) (few : length ran.seen ≤ limit) where
     all : products_in ran.seen ≡ ran.texts ++ each.texts
     all = ap products_in (sym (append-nil ran.seen)) ∙ ran.first [] ∙ ap (λ (t : List ℕ). ran.texts ++ products_in t) (append-nil feed.rest ∙ sym same) ∙ ap (λ (ts : List (List ℕ)). ran.texts ++ ts) (each.last over)
 
@@ -229,7 +229,7 @@ module _ (asked : Asked) (limit : ℕ) (tally : Tally) (before mid : Streams) (f
     whole_front : IsFront asked limit ran.seen after.input.left (lines_told asked (products_in ran.seen))
     whole_front = inr (at_end, few, first_begins asked ran.seen (products_in ran.seen) [] (sym (append-nil (products_in ran.seen))))
 
-    ends_done : (x : Unit {0}) → Adds mid.output.taken after.output.taken out → TellsTo asked limit before after (ReadsAll asked tally') (Ok x)
+    ends_done : (x : Unit {0}) → Adds mid.output.taken after.output.taken out → WritesTo asked limit before after (ReadsAll asked tally') (Ok x)
     ends_done x adds = record {
       read = ran.seen;
       text = lines_told asked (products_in ran.seen);
@@ -245,7 +245,7 @@ module _ (asked : Asked) (limit : ℕ) (tally : Tally) (before mid : Streams) (f
       whole = λ _. refl;
     }
 
-    ends_write_last : {T : Type 0} (done : List ℕ → List ℕ → T → Type 0) → AddsFront mid.output.taken after.output.taken out → TellsTo asked limit before after done (Err stop.Write)
+    ends_write_last : {T : Type 0} (done : List ℕ → List ℕ → T → Type 0) → AddsPrefix mid.output.taken after.output.taken out → WritesTo asked limit before after done (Err stop.Write)
     ends_write_last done front = record {
       read = ran.seen;
       text = lines_told asked (products_in ran.seen);
@@ -263,7 +263,7 @@ module _ (asked : Asked) (limit : ℕ) (tally : Tally) (before mid : Streams) (f
 
   -- the last products were told, or telling them halted
   pub ends_last : (fed fed' : Fed) (tally' : Tally) (new : Extent) (after : Streams) (result : Result (Unit {0}) Stop) → fed.rest ≡ feed.rest → fed.ended ≡ true → IsWhole now new mid.input.left after.input.left
-      → OnOk result (TellsPiece asked fed fed' tally tally' mid.output after.output) → IfErr result (HaltsPiece asked fed tally mid.output after.output) → TellsTo asked limit before after (ReadsAll asked tally') result
+      → OnOk result (WritesPiece asked fed fed' tally tally' mid.output after.output) → IfErr result (HaltsPiece asked fed tally mid.output after.output) → WritesTo asked limit before after (ReadsAll asked tally') result
   ends_last fed fed' tally' new after (Ok x) same over whole told halted =
       let all = read_whole limit now before.input.left mid.input.left ran.seen ran.has new after.input.left whole in
       ends_done fed fed' tally' told.0 same over told.1 after all.0 whole.ended all.1 x told.2
@@ -272,8 +272,8 @@ module _ (asked : Asked) (limit : ℕ) (tally : Tally) (before mid : Streams) (f
       all : Takes before.input.left after.input.left ran.seen × (length ran.seen ≤ limit)
       all = read_whole limit now before.input.left mid.input.left ran.seen ran.has new after.input.left whole
 
-      by_reason : ((why ≡ stop.OutOfMemory) ⊎ (why ≡ stop.Write)) → TellsTo asked limit before after (ReadsAll asked tally') (Err why)
-      by_reason (inl e) = subst (λ (w : Stop). TellsTo asked limit before after (ReadsAll asked tally') (Err w)) (sym e) (lacks (ReadsAll asked tally') ran.seen after all.0 (omega (arith, all.1)) early (halted.no_memory e))
+      by_reason : ((why ≡ stop.OutOfMemory) ⊎ (why ≡ stop.Write)) → WritesTo asked limit before after (ReadsAll asked tally') (Err why)
+      by_reason (inl e) = subst (λ (w : Stop). WritesTo asked limit before after (ReadsAll asked tally') (Err w)) (sym e) (lacks (ReadsAll asked tally') ran.seen after all.0 (omega (arith, all.1)) early (halted.no_memory e))
       by_reason (inr e) =
           let h = halted.write_fault e in
-          subst (λ (w : Stop). TellsTo asked limit before after (ReadsAll asked tally') (Err w)) (sym e) (ends_write_last fed h.0 h.1 h.2 same over h.3 after all.0 whole.ended all.1 (ReadsAll asked tally') h.4)
+          subst (λ (w : Stop). WritesTo asked limit before after (ReadsAll asked tally') (Err w)) (sym e) (ends_write_last fed h.0 h.1 h.2 same over h.3 after all.0 whole.ended all.1 (ReadsAll asked tally') h.4)

@@ -9,7 +9,7 @@ use Rattle.product_frame.specs.declared.frame.FrameFault.{FrameFault}
 use Rattle.product_decoder.specs.Feeding.{Fed, Parts, onto, has_heading, part, products_in, GivesNone, IsWaiting}
 use Rattle.archive_report.specs.declared.tally.Tally.{Tally}
 use Rattle.archive_report.specs.declared.words.Asked.{Asked}
-use Rattle.archive_report.specs.Pieces.{IsTally, CountsAll, Counts, TellsNext, TellsEach}
+use Rattle.archive_report.specs.Pieces.{IsTally, CountsAll, Counts, WritesNext, WritesEach}
 use Rattle.archive_report.specs.Report.{taken_in, products_of, number_in, numbers_from, product_line, product_lines}
 use Rattle.archive_report.specs.Runs.{HasOne}
 use Rattle.archive_report.proofs.Fronts.{Readings, lines-append, products-append, numbers-append, faults-append}
@@ -92,7 +92,7 @@ each_none asked feed tally out is = record {
 }
 
 module _ (asked : Asked) (old mid : Fed) (tally tally1 : Tally) (out out1 : List ℕ) (each : Each asked old mid tally tally1 out out1) where
-  pub each_next : (new : Fed) (tally2 : Tally) (out2 : List ℕ) → TellsNext asked mid new tally1 tally2 out1 out2 → new.ended ≡ mid.ended → Each asked old new tally tally2 out out2
+  pub each_next : (new : Fed) (tally2 : Tally) (out2 : List ℕ) → WritesNext asked mid new tally1 tally2 out1 out2 → new.ended ≡ mid.ended → Each asked old new tally tally2 out out2
   each_next new tally2 out2 next ended_is =
       let texts = each.texts in
       let one : List (List ℕ) = next.text ∷ [] in
@@ -118,7 +118,7 @@ module _ (asked : Asked) (old mid : Fed) (tally tally1 : Tally) (out out1 : List
   less_at_end false new h none = waiting_less mid.rest new.rest (none.0 h).0
   less_at_end true new h none = omega (arith, ap length (none.1 h).1)
 
-  pub each_end : (new : Fed) → GivesNone mid new → new.ended ≡ mid.ended → TellsEach asked old new tally tally1 out out1
+  pub each_end : (new : Fed) → GivesNone mid new → new.ended ≡ mid.ended → WritesEach asked old new tally tally1 out out1
   each_end new none ended_is = record {
     texts = each.texts;
     ended = ended_is ∙ each.ended;
@@ -139,19 +139,19 @@ pub record Looped (asked : Asked) (old new : Fed) (tally tally' : Tally) (out ou
   pub fits : IsTally asked tally'
   pub less : tally'.count + length new.rest ≤ tally.count + length old.rest
   pub each : more ≡ true → Each asked old new tally tally' out out'
-  pub done : more ≡ false → TellsEach asked old new tally tally' out out'
+  pub done : more ≡ false → WritesEach asked old new tally tally' out out'
 
 pub looped_none : (asked : Asked) (feed : Fed) (tally : Tally) (out : List ℕ) → IsTally asked tally → Looped asked feed feed tally tally out out true
 looped_none asked feed tally out is = record { fits = is; less = omega arith; each = λ _. each_none asked feed tally out is; done = λ e. absurd (cc) }
 
 pub looped_next : (asked : Asked) (old mid new : Fed) (tally tally1 tally2 : Tally) (out out1 out2 : List ℕ) (more : Bool) → Each asked old mid tally tally1 out out1
-    → (more ≡ true → TellsNext asked mid new tally1 tally2 out1 out2) → (more ≡ false → GivesNone mid new × (tally2 ≡ tally1) × (out2 ≡ out1)) → new.ended ≡ mid.ended → Looped asked old new tally tally2 out out2 more
+    → (more ≡ true → WritesNext asked mid new tally1 tally2 out1 out2) → (more ≡ false → GivesNone mid new × (tally2 ≡ tally1) × (out2 ≡ out1)) → new.ended ≡ mid.ended → Looped asked old new tally tally2 out out2 more
 looped_next asked old mid new tally tally1 tally2 out out1 out2 true each some none ended =
     let next = each_next asked old mid tally tally1 out out1 each new tally2 out2 (some refl) ended in
     record { fits = next.fits; less = next.less; each = λ _. next; done = λ e. absurd (cc) }
 looped_next asked old mid new tally tally1 tally2 out out1 out2 false each some none ended =
     let h = none refl in
-    let last : TellsEach asked old new tally tally2 out out2 = rw (h.1, h.2) (each_end asked old mid tally tally1 out out1 each new h.0 ended) in
+    let last : WritesEach asked old new tally tally2 out out2 = rw (h.1, h.2) (each_end asked old mid tally tally1 out out1 each new h.0 ended) in
     record { fits = last.fits; less = last.less; each = λ e. absurd (cc); done = λ _. last }
 
 pub looped_smaller : (more' more : Bool) (n m : ℕ) → more ≡ true → (more' ≡ true → n < m) → cond more' (n + 1) 0 < cond more (m + 1) 0

@@ -8,13 +8,13 @@ use Rattle.product_decoder.specs.Feeding.{Fed, Gives, Keeps, products_in}
 use Rattle.product_decoder.specs.ReaderModel.{found_of, gaps_found}
 use Rattle.product_decoder.specs.declared.types.Decoded.{Decoded}
 use Rattle.product_frame.specs.declared.frame.FrameFault.{FrameFault}
-use Rattle.program_ends.specs.Ends.{Begins, AddsFront}
+use Rattle.program_ends.specs.Ends.{Begins, AddsPrefix}
 use Rattle.program_ends.specs.declared.reading.Stop.{Stop}
 use Rattle.program_ends.specs.declared.reading.Stop.TheVariants as stop
 use Rattle.archive_report.specs.declared.tally.Tally.{Tally}
 use Rattle.archive_report.specs.declared.words.Asked.{Asked}
 use Rattle.archive_report.specs.Report.{taken_in, products_of, number_in, numbers_from, fault_in, faults_in, product_line, product_lines, findings_text, shown_text, last_line, report, listed}
-use Rattle.archive_report.specs.Runs.{HasOne, IsFinishedTold, IsFront, lines_told}
+use Rattle.archive_report.specs.Runs.{HasOne, IsFinishedWritten, IsFront, lines_told}
 
 -- A tally counts products of the office and class, and of these no more than there are.
 pub record IsTally (asked : Asked) (tally : Tally) : Type 0 where
@@ -41,7 +41,7 @@ pub record CountsAll (asked : Asked) (readings : List (Result Decoded FrameFault
   pub faults : new.faults ≡ old.faults + faults_in readings
 
 -- a product came out, was counted, and has its line
-pub record TellsNext (asked : Asked) (old new : Fed) (tally tally' : Tally) (out out' : List ℕ) : Type 0 where
+pub record WritesNext (asked : Asked) (old new : Fed) (tally tally' : Tally) (out out' : List ℕ) : Type 0 where
   pub text : List ℕ
   pub gives : Gives old text new
   pub counts : Counts asked (decode text) tally tally'
@@ -53,7 +53,7 @@ abbrev pub Waits : List ℕ → Type 0
 Waits new = (held : List ℕ) × HasOne held × Keeps held new
 
 -- All products that were finished came out, were counted, and have their lines; at the stream's end all of them.
-pub record TellsEach (asked : Asked) (old new : Fed) (tally tally' : Tally) (out out' : List ℕ) : Type 0 where
+pub record WritesEach (asked : Asked) (old new : Fed) (tally tally' : Tally) (out out' : List ℕ) : Type 0 where
   pub texts : List (List ℕ)
   pub ended : new.ended ≡ old.ended
   pub going : old.ended ≡ false → ((more : List ℕ) → products_in (old.rest ++ more) ≡ texts ++ products_in (new.rest ++ more)) × Waits new.rest
@@ -64,13 +64,13 @@ pub record TellsEach (asked : Asked) (old new : Fed) (tally tally' : Tally) (out
   pub told : out' ≡ out ++ product_lines asked (tally.count + 1) (map decode texts)
 
 -- and their lines were written
-abbrev pub TellsPiece : Asked → Fed → Fed → Tally → Tally → Outflow → Outflow → Type 0
-TellsPiece asked old new tally tally' before after = (out : List ℕ) × TellsEach asked old new tally tally' [] out × Adds before.taken after.taken out
+abbrev pub WritesPiece : Asked → Fed → Fed → Tally → Tally → Outflow → Outflow → Type 0
+WritesPiece asked old new tally tally' before after = (out : List ℕ) × WritesEach asked old new tally tally' [] out × Adds before.taken after.taken out
 
 -- nothing was written where memory lacked, and a front of the lines where a write failed
 pub record HaltsPiece (asked : Asked) (old : Fed) (tally : Tally) (before after : Outflow) (why : Stop) : Type 0 where
   pub no_memory : why ≡ stop.OutOfMemory → after.taken ≡ before.taken
-  pub write_fault : why ≡ stop.Write → (new : Fed) × (tally' : Tally) × (out : List ℕ) × TellsEach asked old new tally tally' [] out × AddsFront before.taken after.taken out
+  pub write_fault : why ≡ stop.Write → (new : Fed) × (tally' : Tally) × (out : List ℕ) × WritesEach asked old new tally tally' [] out × AddsPrefix before.taken after.taken out
   pub reasons : (why ≡ stop.OutOfMemory) ⊎ (why ≡ stop.Write)
 
 -- a tally of these products
@@ -82,7 +82,7 @@ pub record IsTallied (asked : Asked) (readings : List (Result Decoded FrameFault
   pub faults : tally.faults ≡ faults_in readings
 
 -- A run until it ends, well or for a reason: what was read, the text that was to be written, and what was written of it.
-pub record TellsTo {T : Type 0} (asked : Asked) (limit : ℕ) (before after : Streams) (done : List ℕ → List ℕ → T → Type 0) (result : Result T Stop) : Type 0 where
+pub record WritesTo {T : Type 0} (asked : Asked) (limit : ℕ) (before after : Streams) (done : List ℕ → List ℕ → T → Type 0) (result : Result T Stop) : Type 0 where
   pub read : List ℕ
   pub text : List ℕ
   pub written : List ℕ
@@ -90,8 +90,8 @@ pub record TellsTo {T : Type 0} (asked : Asked) (limit : ℕ) (before after : St
   pub adds : Adds before.output.taken after.output.taken written
   pub within : length read ≤ limit + 1
   pub ended : IfOk result (λ (x : T). IsAtEnd after.input.left × (length read ≤ limit) × done read text x)
-  pub read_fault : IsErrOf result stop.Read → (length read ≤ limit) × IsFinishedTold asked read text
-  pub too_long : IsErrOf result stop.TooLong → (length read ≡ limit + 1) × IsFinishedTold asked (take limit read) text
+  pub read_fault : IsErrOf result stop.Read → (length read ≤ limit) × IsFinishedWritten asked read text
+  pub too_long : IsErrOf result stop.TooLong → (length read ≡ limit + 1) × IsFinishedWritten asked (take limit read) text
   pub front : IsFront asked limit read after.input.left text
   pub begins : Begins written text
   pub whole : (IsErrOf result stop.Write → ⊥) → written ≡ text
@@ -108,7 +108,7 @@ pub record Pages (before after : Outflow) (out out' text : List ℕ) : Type 0 wh
 
 -- a front of the text was written, until memory lacked or a write failed
 pub record Halts (before after : Outflow) (text : List ℕ) (why : Stop) : Type 0 where
-  pub front : AddsFront before.taken after.taken text
+  pub front : AddsPrefix before.taken after.taken text
   pub reasons : (why ≡ stop.OutOfMemory) ⊎ (why ≡ stop.Write)
 
 -- the report was told, and so many faults, breaches and gaps are listed

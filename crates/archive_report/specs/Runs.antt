@@ -31,8 +31,8 @@ abbrev pub lines_told : Asked → List (List ℕ) → List ℕ
 lines_told asked texts = product_lines asked 1 (map decode texts)
 
 -- the lines of the products that are finished
-abbrev pub IsFinishedTold : Asked → List ℕ → List ℕ → Type 0
-IsFinishedTold asked read told = (texts : List (List ℕ)) × AreFinished read texts × (told ≡ lines_told asked texts)
+abbrev pub IsFinishedWritten : Asked → List ℕ → List ℕ → Type 0
+IsFinishedWritten asked read told = (texts : List (List ℕ)) × AreFinished read texts × (told ≡ lines_told asked texts)
 
 -- a front of the report of each input that begins so
 abbrev pub IsEarly : Asked → List ℕ → List ℕ → Type 0
@@ -69,8 +69,8 @@ pub record IsArchiveRun (asked : Asked) (limit : ℕ) (before after : Streams) (
   pub clean : status ≡ 0 → listed asked read ≡ 0
   pub against : status ≡ 3 → listed asked read ≢ 0
   -- The lines of the products that were finished, and the line of the fault.
-  pub read_fault : status ≡ 7 → Rose before.input.faults after.input.faults × (after.output.faults ≡ before.output.faults) × (length read ≤ limit) × ((told : List ℕ) × IsFinishedTold asked read told × (written ≡ told ++ fault_line ReadFault))
-  pub too_long : status ≡ 13 → SameFaults before after × (length read ≡ limit + 1) × ((told : List ℕ) × IsFinishedTold asked (take limit read) told × (written ≡ told ++ fault_line InputTooLong))
+  pub read_fault : status ≡ 7 → Rose before.input.faults after.input.faults × (after.output.faults ≡ before.output.faults) × (length read ≤ limit) × ((told : List ℕ) × IsFinishedWritten asked read told × (written ≡ told ++ fault_line ReadFault))
+  pub too_long : status ≡ 13 → SameFaults before after × (length read ≡ limit + 1) × ((told : List ℕ) × IsFinishedWritten asked (take limit read) told × (written ≡ told ++ fault_line InputTooLong))
   -- A front of the report, and the line of the fault; no count rose.
   pub no_memory : status ≡ 12 → SameFaults before after × ((front : List ℕ) × IsFront asked limit read after.input.left front × (written ≡ front ++ fault_line OutOfMemory))
   -- A front of the report with the line of the fault that ended it, if one did before the write failed; and then a front of the line of a write fault, which stands whole where the count rose by one alone.

@@ -1,7 +1,7 @@
 -- The words of a command line.
 use Rattle.std.specs.Prelude.{ℕ, List, [], ◌∷◌, if◌then◌else◌, Option, Some, None}
 use Rattle.hazard_types.specs.Calendar.{stamp_at}
-use Rattle.hazard_types.specs.Codes.{value_beside}
+use Rattle.hazard_types.specs.Codes.{value_for_code}
 use Rattle.hazard_types.specs.Tables.{class_rows}
 use Rattle.hazard_types.specs.declared.codes.Class.{Class}
 use Rattle.hazard_types.specs.Characters.{is_office}
@@ -18,5 +18,5 @@ unfoldable pub asked_of : List (List ℕ) → Option Asked
 asked_of [] = None
 asked_of (a ∷ []) = None
 asked_of (a ∷ b ∷ []) = None
-asked_of (a ∷ b ∷ c ∷ []) = if is_office a then asked_by a (value_beside class_rows b) (stamp_at c) else None
+asked_of (a ∷ b ∷ c ∷ []) = if is_office a then asked_by a (value_for_code class_rows b) (stamp_at c) else None
 asked_of (a ∷ b ∷ c ∷ d ∷ more) = None

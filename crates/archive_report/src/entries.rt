@@ -52,7 +52,7 @@ impl Entry for Row {
 ///
 /// `Stop::Write` if a write failed, and `Stop::OutOfMemory`. A prefix of `out` and the lines was
 /// then written.
-pub fn tell_entries<E: Entry, K: Sink>(
+pub fn write_entries<E: Entry, K: Sink>(
     alloc: Global,
     out: &mut Text,
     output: &mut K,

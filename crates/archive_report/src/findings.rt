@@ -10,7 +10,7 @@ ghost use Rattle.archive_report.specs.Pieces.{Halts, Pages, count_listed, end_te
 ghost use Rattle.archive_report.specs.Readings.{IsNumbered};
 ghost use Rattle.archive_report.specs.Report.{life_line, lives_text, breach_line, findings_text, shown_text, last_line};
 
-use crate::entries::tell_entries;
+use crate::entries::write_entries;
 use crate::lines::{put_breach, put_last, put_shown};
 use crate::lives::LastLife;
 use crate::page::{flush, flush_if_full};
@@ -24,7 +24,7 @@ use std::alloc::Global;
 
 /// Adds a life's line to `out` and remembers its texts in `last`; writes `out` once it is large
 /// enough.
-fn tell_life<K: Sink>(
+fn write_life<K: Sink>(
     alloc: Global,
     out: &mut Text,
     output: &mut K,
@@ -43,7 +43,7 @@ fn tell_life<K: Sink>(
 }
 
 /// Adds the lives of an event.
-fn tell_event<K: Sink>(
+fn write_event<K: Sink>(
     alloc: Global,
     out: &mut Text,
     output: &mut K,
@@ -59,13 +59,13 @@ fn tell_event<K: Sink>(
     let lives = event.tracks(alloc)?;
     let mut last = LastLife::none(alloc);
     for life in lives.as_slice() {
-        tell_life(alloc, out, output, &mut last, life)?;
+        write_life(alloc, out, output, &mut last, life)?;
     }
     Ok(())
 }
 
 /// Adds the lives of these events. Memory holds the lives of one event at a time.
-fn tell_events<K: Sink>(
+fn write_events<K: Sink>(
     alloc: Global,
     out: &mut Text,
     output: &mut K,
@@ -79,13 +79,13 @@ fn tell_events<K: Sink>(
         (K.outflow output.old).faults (K.outflow output.new).faults result }
 {
     for event in events {
-        tell_event(alloc, out, output, event)?;
+        write_event(alloc, out, output, event)?;
     }
     Ok(())
 }
 
 /// Adds the lives of all events.
-fn tell_lives<K: Sink>(
+fn write_lives<K: Sink>(
     alloc: Global,
     out: &mut Text,
     output: &mut K,
@@ -99,12 +99,12 @@ fn tell_lives<K: Sink>(
         (K.outflow output.old).faults (K.outflow output.new).faults result }
 {
     let events = reader.lives_by_event(alloc)?;
-    tell_events(alloc, out, output, events.as_slice())
+    write_events(alloc, out, output, events.as_slice())
 }
 
 /// Adds the lines in breach. `numbers` has the number of each product without a fault among all
 /// products of the input.
-fn tell_breaches<K: Sink>(
+fn write_breaches<K: Sink>(
     alloc: Global,
     out: &mut Text,
     output: &mut K,
@@ -135,7 +135,7 @@ fn total(faults: usize, breaches: &[Found], gaps: &[GapFound]) -> usize
 }
 
 /// Adds the lives, breaches and gaps. Returns how many faults, breaches and gaps there are.
-fn tell_findings<K: Sink>(
+fn write_findings<K: Sink>(
     alloc: Global,
     out: &mut Text,
     output: &mut K,
@@ -152,22 +152,22 @@ fn tell_findings<K: Sink>(
     ensures cause { IsCauseOf Stop.Write
         (K.outflow output.old).faults (K.outflow output.new).faults result }
 {
-    tell_lives(alloc, out, output, &tally.reader)?;
+    write_lives(alloc, out, output, &tally.reader)?;
     let breaches = tally.reader.breaches(alloc)?;
     let gaps = tally.reader.gaps(alloc)?;
-    tell_breaches(
+    write_breaches(
         alloc,
         out,
         output,
         tally.numbers.as_slice(),
         breaches.as_slice(),
     )?;
-    tell_entries(alloc, out, output, gaps.as_slice())?;
+    write_entries(alloc, out, output, gaps.as_slice())?;
     Ok(total(tally.faults, breaches.as_slice(), gaps.as_slice()))
 }
 
 /// Adds the rows at the minute that is asked for.
-fn tell_shown<K: Sink>(
+fn write_shown<K: Sink>(
     alloc: Global,
     out: &mut Text,
     output: &mut K,
@@ -185,11 +185,11 @@ fn tell_shown<K: Sink>(
 {
     let rows = reader.shown(alloc, asked.minute)?;
     put_shown(alloc, out, asked.minute, rows.len())?;
-    tell_entries(alloc, out, output, rows.as_slice())
+    write_entries(alloc, out, output, rows.as_slice())
 }
 
 /// Adds the last line and writes what is left in `out`.
-fn tell_last<K: Sink>(
+fn write_last<K: Sink>(
     alloc: Global,
     out: &mut Text,
     output: &mut K,
@@ -208,7 +208,7 @@ fn tell_last<K: Sink>(
 
 /// Adds the rows at the minute that is asked for and the last line, and writes what is left in
 /// `out`.
-fn tell_end<K: Sink>(
+fn write_end<K: Sink>(
     alloc: Global,
     out: &mut Text,
     output: &mut K,
@@ -224,8 +224,8 @@ fn tell_end<K: Sink>(
     ensures cause { IsCauseOf Stop.Write
         (K.outflow output.old).faults (K.outflow output.new).faults result }
 {
-    tell_shown(alloc, out, output, asked, &tally.reader)?;
-    tell_last(alloc, out, output, listed)
+    write_shown(alloc, out, output, asked, &tally.reader)?;
+    write_last(alloc, out, output, listed)
 }
 
 /// Writes the report from the lives on: lives, breaches, gaps, the rows at a minute and the last
@@ -237,7 +237,7 @@ fn tell_end<K: Sink>(
 /// written.
 ///
 /// Source: docs/ARCHIVE.md, "The lines".
-pub fn tell_rest<K: Sink>(
+pub fn write_rest<K: Sink>(
     alloc: Global,
     asked: &Asked,
     tally: &Tally,
@@ -255,7 +255,7 @@ pub fn tell_rest<K: Sink>(
         (K.outflow output.old).faults (K.outflow output.new).faults result }
 {
     let mut out = List::new(alloc);
-    let listed = tell_findings(alloc, &mut out, output, tally)?;
-    tell_end(alloc, &mut out, output, asked, tally, listed)?;
+    let listed = write_findings(alloc, &mut out, output, tally)?;
+    write_end(alloc, &mut out, output, asked, tally, listed)?;
     Ok(listed)
 }

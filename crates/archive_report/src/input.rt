@@ -3,9 +3,9 @@ ghost use Rattle.std.specs.Prelude.{◌≤◌};
 ghost use Rattle.byte_streams.specs.Flows.{streams};
 ghost use Rattle.program_ends.specs.Steps.{IsCauseOf};
 ghost use Rattle.program_ends.specs.Lines.{most_bytes};
-ghost use Rattle.archive_report.specs.Pieces.{IsTally, IsFresh, TellsTo, ReadsAll};
+ghost use Rattle.archive_report.specs.Pieces.{IsTally, IsFresh, WritesTo, ReadsAll};
 
-use crate::products::tell_products;
+use crate::products::write_products;
 use crate::tally::Tally;
 use crate::words::Asked;
 use byte_streams::{Sink, Source};
@@ -20,7 +20,7 @@ use std::alloc::Global;
 ///
 /// `Stop::Read` or `Stop::Write` if a read or a write failed, `Stop::TooLong` if the input has more
 /// than `limit` bytes (one byte more than the limit is then read), and `Stop::OutOfMemory`.
-pub fn tell_input<S: Source, K: Sink>(
+pub fn write_input_report<S: Source, K: Sink>(
     alloc: Global,
     asked: &Asked,
     limit: usize,
@@ -31,7 +31,7 @@ pub fn tell_input<S: Source, K: Sink>(
     requires limit { limit ≤ most_bytes }
     requires tally { IsTally asked.now tally.old }
     requires fresh { IsFresh tally.old }
-    ensures run { TellsTo asked.now limit
+    ensures run { WritesTo asked.now limit
         (streams (S.inflow input.old) (K.outflow output.old))
         (streams (S.inflow input.new) (K.outflow output.new))
         (ReadsAll asked.now tally.new) result }
@@ -45,8 +45,8 @@ pub fn tell_input<S: Source, K: Sink>(
     let mut buffer = [0u8; 65_536];
     while let Some(count) = pieces.next(input, &mut buffer)? {
         feed.push(alloc, &buffer[..count])?;
-        tell_products(alloc, asked, &mut feed, tally, output)?;
+        write_products(alloc, asked, &mut feed, tally, output)?;
     }
     feed.end();
-    tell_products(alloc, asked, &mut feed, tally, output)
+    write_products(alloc, asked, &mut feed, tally, output)
 }

@@ -3,7 +3,7 @@ ghost use Rattle.std.specs.Prelude.{◌≡◌, ◌<◌, ◌+◌, true, false, le
 ghost use Rattle.product_decoder.specs.Decoded.{decode};
 ghost use Rattle.product_decoder.specs.Feeding.{GivesNone};
 ghost use Rattle.program_ends.specs.Steps.{IsCauseOf};
-ghost use Rattle.archive_report.specs.Pieces.{IsTally, TellsNext, TellsEach, TellsPiece, HaltsPiece};
+ghost use Rattle.archive_report.specs.Pieces.{IsTally, WritesNext, WritesEach, WritesPiece, HaltsPiece};
 ghost use Rattle.archive_report.specs.Readings.{said_of};
 
 use crate::lines::put_product;
@@ -30,7 +30,7 @@ fn read_product(alloc: Global, bytes: &[u8]) -> Result<Reading, Oom>
 
 /// Takes the next finished product of the feed into the tally and adds its line to `out`. Returns
 /// whether there was one.
-fn tell_next(
+fn write_next(
     alloc: Global,
     asked: &Asked,
     feed: &mut Feed,
@@ -41,7 +41,7 @@ fn tell_next(
     requires few { tally.old.count < 2000000000 }
     ensures ended { feed.new.ended ≡ feed.old.ended }
     ensures some { result ≡ Ok true
-        → TellsNext asked.now feed.old feed.new tally.old tally.new out.old out.new }
+        → WritesNext asked.now feed.old feed.new tally.old tally.new out.old out.new }
     ensures none { result ≡ Ok false
         → GivesNone feed.old feed.new × (tally.new ≡ tally.old) × (out.new ≡ out.old) }
 {
@@ -57,7 +57,7 @@ fn tell_next(
 }
 
 /// Takes each finished product of the feed into the tally and adds its line to `out`.
-fn tell_each(
+fn write_each(
     alloc: Global,
     asked: &Asked,
     feed: &mut Feed,
@@ -67,11 +67,11 @@ fn tell_each(
     requires tally { IsTally asked.now tally.old }
     requires few { tally.old.count + length feed.old.rest < 2000000000 }
     ensures { OnOk result
-        (TellsEach asked.now feed.old feed.new tally.old tally.new out.old out.new) }
+        (WritesEach asked.now feed.old feed.new tally.old tally.new out.old out.new) }
 {
     let mut more = true;
     while more {
-        more = tell_next(alloc, asked, feed, tally, out)?;
+        more = write_next(alloc, asked, feed, tally, out)?;
     }
     Ok(())
 }
@@ -82,7 +82,7 @@ fn tell_each(
 ///
 /// `Stop::Write` if the write failed; a prefix of the lines was then written. `Stop::OutOfMemory`
 /// if memory ran out; nothing was then written.
-pub fn tell_products<K: Sink>(
+pub fn write_products<K: Sink>(
     alloc: Global,
     asked: &Asked,
     feed: &mut Feed,
@@ -91,7 +91,7 @@ pub fn tell_products<K: Sink>(
 ) -> Result<(), Stop>
     requires tally { IsTally asked.now tally.old }
     requires few { tally.old.count + length feed.old.rest < 2000000000 }
-    ensures told { OnOk result (TellsPiece asked.now feed.old feed.new tally.old tally.new
+    ensures told { OnOk result (WritesPiece asked.now feed.old feed.new tally.old tally.new
         (K.outflow output.old) (K.outflow output.new)) }
     ensures halted { IfErr result (HaltsPiece asked.now feed.old tally.old
         (K.outflow output.old) (K.outflow output.new)) }
@@ -99,7 +99,7 @@ pub fn tell_products<K: Sink>(
         (K.outflow output.old).faults (K.outflow output.new).faults result }
 {
     let mut lines = List::new(alloc);
-    tell_each(alloc, asked, feed, tally, &mut lines)?;
+    write_each(alloc, asked, feed, tally, &mut lines)?;
     match write_whole(output, lines.as_slice()) {
         Ok(()) => Ok(()),
         Err(Failed) => Err(Stop::Write),

@@ -3,10 +3,10 @@ ghost use Rattle.std.specs.Prelude.{◌≤◌};
 ghost use Rattle.byte_streams.specs.Flows.{streams};
 ghost use Rattle.program_ends.specs.Steps.{IsCauseOf};
 ghost use Rattle.program_ends.specs.Lines.{most_bytes};
-ghost use Rattle.archive_report.specs.Pieces.{TellsTo, Reports};
+ghost use Rattle.archive_report.specs.Pieces.{WritesTo, Reports};
 
-use crate::findings::tell_rest;
-use crate::input::tell_input;
+use crate::findings::write_rest;
+use crate::input::write_input_report;
 use crate::tally::Tally;
 use crate::words::Asked;
 use byte_streams::{Sink, Source};
@@ -28,7 +28,7 @@ pub fn write_report<S: Source, K: Sink>(
     output: &mut K,
 ) -> Result<usize, Stop>
     requires { limit ≤ most_bytes }
-    ensures run { TellsTo asked.now limit
+    ensures run { WritesTo asked.now limit
         (streams (S.inflow input.old) (K.outflow output.old))
         (streams (S.inflow input.new) (K.outflow output.new)) (Reports asked.now) result }
     ensures read { IsCauseOf Stop.Read
@@ -37,6 +37,6 @@ pub fn write_report<S: Source, K: Sink>(
         (K.outflow output.old).faults (K.outflow output.new).faults result }
 {
     let mut tally = Tally::new(alloc, asked);
-    tell_input(alloc, asked, limit, &mut tally, input, output)?;
-    tell_rest(alloc, asked, &tally, output)
+    write_input_report(alloc, asked, limit, &mut tally, input, output)?;
+    write_rest(alloc, asked, &tally, output)
 }

@@ -29,5 +29,5 @@ abbrev pub outflow_of : SinkInMemory → Outflow
 outflow_of s = outflow (Some s.taken) s.faults
 
 -- a call fails exactly where it was told to, or memory lacked for it
-abbrev pub FailsAsTold : {T E : Type 0} → Type 0 → Bool → Bool → Result T E → Type 0
-FailsAsTold told lacked lacked' result = ((lacked' ≡ lacked) × (IsErr result ↔ told)) ⊎ ((lacked' ≡ true) × IsErr result)
+abbrev pub FailsWhereListed : {T E : Type 0} → Type 0 → Bool → Bool → Result T E → Type 0
+FailsWhereListed told lacked lacked' result = ((lacked' ≡ lacked) × (IsErr result ↔ told)) ⊎ ((lacked' ≡ true) × IsErr result)

@@ -2,7 +2,7 @@
 ghost use Rattle.std.specs.Prelude.{◌≡◌, ◌≤◌, ◌↔◌, length, min, IfOk, OnErr, IsErr, Contains, [], false};
 ghost use Rattle.desk_traits.specs.Faults.{next_count};
 ghost use Rattle.byte_streams.specs.Flows.{Reads, Writes};
-ghost use Rattle.byte_streams.specs.StreamMemory.{FailsAsTold, inflow_of, outflow_of};
+ghost use Rattle.byte_streams.specs.StreamMemory.{FailsWhereListed, inflow_of, outflow_of};
 
 use crate::streams::{Sink, Source};
 use desk_traits::Failed;
@@ -149,7 +149,7 @@ impl Sink for MemSink {
 
         // It fails exactly at the listed calls and where memory runs out; otherwise it takes all
         // bytes.
-        ensures failing { FailsAsTold (Contains self.old.failing (next_count self.old.calls))
+        ensures failing { FailsWhereListed (Contains self.old.failing (next_count self.old.calls))
             self.old.lacked self.new.lacked result }
         ensures amount { IfOk result (λ n. n ≡ length bytes.now) }
         ensures called { self.new.calls ≡ next_count self.old.calls }

@@ -22,7 +22,7 @@ use Rattle.county_notices.specs.declared.issuer.Issuer.{Issuer}
 -- ---- the notices among the answers
 
 -- the line asks what an accepted command does, and is answered by its notice
-pub record TellsNotice (s : Noticed) (line : Option (List ℕ)) (text : List ℕ) (notes : List Noted) (next : Noticed) : Type 0 where
+pub record WritesNotice (s : Noticed) (line : Option (List ℕ)) (text : List ℕ) (notes : List Noted) (next : Noticed) : Type 0 where
   pub bytes : List ℕ
   pub command : Command
   pub given : line ≡ Some bytes
@@ -31,14 +31,14 @@ pub record TellsNotice (s : Noticed) (line : Option (List ℕ)) (text : List ℕ
   pub noted : notes ≡ record { command = command; text = text } ∷ []
 
 -- the line is answered by nothing or by a refusal, and nothing changes
-pub record TellsNone (s : Noticed) (line : Option (List ℕ)) (text : List ℕ) (notes : List Noted) (next : Noticed) : Type 0 where
+pub record WritesNone (s : Noticed) (line : Option (List ℕ)) (text : List ℕ) (notes : List Noted) (next : Noticed) : Type 0 where
   pub answered : AnswersLine s line text next
   pub quiet : (text ≡ []) ⊎ ((rule : NoticeRefusal) × (text ≡ refusal_line rule))
   pub unchanged : next ≡ s
   pub noted : notes ≡ []
 
 abbrev pub Tells : Noticed → Option (List ℕ) → List ℕ → List Noted → Noticed → Type 0
-Tells s line text notes next = TellsNotice s line text notes next ⊎ TellsNone s line text notes next
+Tells s line text notes next = WritesNotice s line text notes next ⊎ WritesNone s line text notes next
 
 -- Lines are answered one after another: what is told for each, and the notices among it, in their order.
 abbrev pub AreTold : Noticed → List (List ℕ) → List ℕ → List Noted → Noticed → Type 0

@@ -17,7 +17,7 @@ use Rattle.desk_clock.specs.LocalText.{one_or_two, clock_hour, half_day, short_o
 use Rattle.hazard_types.specs.Calendar.{two}
 use Rattle.hazard_types.specs.Digits.{four_digits}
 use Rattle.desk_clock.specs.LocalTimes.{local_time, shown_at, local_minutes, minute_shown, minute_behind, in_2000, from_2000, on_last_day_of_1999, IsShown}
-use Rattle.desk_clock.specs.LocalWords.{words_say, date_said}
+use Rattle.desk_clock.specs.LocalWords.{parse_words, parse_date}
 use Rattle.desk_clock.specs.Names.{month_name, weekday_name}
 use Rattle.desk_clock.specs.Words.{begins_with, IsWord}
 use Rattle.hazard_types.specs.Characters.{is_blank}
@@ -73,8 +73,8 @@ said a t = record { abbreviation = Some a; time = t }
 
 -- the words of the line say the abbreviation and the time
 words_back : (a : Abbreviation) (day : ℕ) (t : LocalTime) → IsShown t →
-    words_say (one_or_two (clock_hour t.hour) ++ two t.minute []) (half_day t.hour) (letters_of a) (weekday_name day) (month_name t.month) (one_or_two t.day) (four_digits t.year) ≡ Some (said a t)
-unfolding words_say date_said
+    parse_words (one_or_two (clock_hour t.hour) ++ two t.minute []) (half_day t.hour) (letters_of a) (weekday_name day) (month_name t.month) (one_or_two t.day) (four_digits t.year) ≡ Some (said a t)
+unfolding parse_words parse_date
 words_back a day t is =
     let weekday = (weekday_is ((day + 4) % 7) (omega arith)).found in
     let months = is.month in

@@ -9,7 +9,7 @@ use Rattle.desk_clock.specs.Abbreviations.{letters_of}
 use Rattle.desk_clock.specs.LocalText.{one_or_two, clock_hour, half_day}
 use Rattle.hazard_types.specs.Calendar.{two}
 use Rattle.hazard_types.specs.Digits.{four_digits}
-use Rattle.desk_clock.specs.LocalWords.{digit, number_of, half_of, time_of, parse_time_of_day, year_said, are_letters}
+use Rattle.desk_clock.specs.LocalWords.{digit, number_of, half_of, time_of, parse_time_of_day, parse_year, are_letters}
 use Rattle.desk_clock.specs.Names.{month_names, weekday_names, abbreviations, parse_abbreviation, place_of}
 use Rattle.desk_clock.specs.Words.{begins_with}
 use Rattle.hazard_types.specs.Characters.{is_blank}
@@ -67,8 +67,8 @@ day_number_said d h =
       | inr le ↦ rw (le-ltb d 10 le) (number_two d (d / 10) (d % 10) (omega arith) (omega arith) (omega arith))
     ]
 
-pub year_back : (y : ℕ) → y < 10000 → year_said (four_digits y) ≡ Some y
-unfolding year_said
+pub year_back : (y : ℕ) → y < 10000 → parse_year (four_digits y) ≡ Some y
+unfolding parse_year
 year_back y h =
     let century = number_two (y / 100) (y / 1000) (y / 100 % 10) (omega arith) (omega arith) (omega arith) in
     let year = number_two (y % 100) (y / 10 % 10) (y % 10) (omega arith) (omega arith) (omega arith) in

@@ -8,7 +8,7 @@ use Rattle.desk_clock.specs.declared.reading.LocalFault.{LocalFault}
 use Rattle.desk_clock.specs.declared.reading.LocalFault.TheVariants.{NoLocalTime, UnknownAbbreviation}
 use Rattle.desk_clock.specs.LocalTimes.{local_time, shown_at, minute_shown, has_date}
 use Rattle.desk_clock.specs.Words.{IsWord, IsAside, first_word, after_word, after_aside, begins_with}
-use Rattle.desk_clock.specs.LocalWords.{words_say}
+use Rattle.desk_clock.specs.LocalWords.{parse_words}
 
 -- The form: seven words parted by blanks, and between the third and the fourth at most one part between slashes.
 pub record IsForm (b : List ℕ) (w : Written) : Type 0 where
@@ -32,7 +32,7 @@ pub record IsForm (b : List ℕ) (w : Written) : Type 0 where
   pub fourth : IsWord weekday from_weekday from_month
   pub fifth : IsWord month from_month from_day
   pub sixth : IsWord day from_day year
-  pub says : words_say clock half letters weekday month day year ≡ Some w
+  pub says : parse_words clock half letters weekday month day year ≡ Some w
 
 -- the line is of that form, and by its abbreviation the clock shows its date and time in minute m
 pub record ReadsAs (b : List ℕ) (m : ℕ) : Type 0 where
@@ -64,7 +64,7 @@ written_in b =
     let weekday = after_aside (after_word letters) in
     let month = after_word weekday in
     let day = after_word month in
-    words_say (first_word b) (first_word half) (first_word letters) (first_word weekday) (first_word month) (first_word day) (after_word day)
+    parse_words (first_word b) (first_word half) (first_word letters) (first_word weekday) (first_word month) (first_word day) (after_word day)
 
 abbrev pub or_no_time : Option ℕ → Result ℕ LocalFault
 or_no_time None = Err NoLocalTime

@@ -32,8 +32,8 @@ parse_time_of_day clock half =
     option_and_then (λ hour. option_and_then (λ minute. option_and_then (λ h. time_of hour minute h) (half_of half)) (number_of (drop (length clock - 2) clock))) (number_of (take (length clock - 2) clock))
 
 -- a year of four digits
-unfoldable pub year_said : List ℕ → Option ℕ
-year_said word =
+unfoldable pub parse_year : List ℕ → Option ℕ
+parse_year word =
     if length word == 4 then option_and_then (λ century. option_map (λ year. 100 * century + year) (number_of (drop 2 word))) (number_of (take 2 word)) else None
 
 abbrev pub are_letters : List ℕ → Bool
@@ -43,13 +43,13 @@ abbrev pub dated : List ℕ → ℕ → ℕ → ℕ → ℕ × ℕ → Written
 dated letters month day year time =
     record { abbreviation = parse_abbreviation letters; time = record { year = year; month = month + 1; day = day; hour = time.0; minute = time.1 } }
 
-unfoldable pub date_said : List ℕ → List ℕ → List ℕ → List ℕ → ℕ × ℕ → Option Written
-date_said letters month day year time =
-    option_and_then (λ m. option_and_then (λ d. option_map (λ y. dated letters m d y time) (year_said year)) (number_of day)) (place_of month_names month)
+unfoldable pub parse_date : List ℕ → List ℕ → List ℕ → List ℕ → ℕ × ℕ → Option Written
+parse_date letters month day year time =
+    option_and_then (λ m. option_and_then (λ d. option_map (λ y. dated letters m d y time) (parse_year year)) (number_of day)) (place_of month_names month)
 
 -- what seven words say: hour and minute, half of the day, abbreviation, weekday, month, day, year
-unfoldable pub words_say : List ℕ → List ℕ → List ℕ → List ℕ → List ℕ → List ℕ → List ℕ → Option Written
-words_say clock half letters weekday month day year =
+unfoldable pub parse_words : List ℕ → List ℕ → List ℕ → List ℕ → List ℕ → List ℕ → List ℕ → Option Written
+parse_words clock half letters weekday month day year =
     if are_letters letters && is_some (place_of weekday_names weekday)
-    then option_and_then (λ time. date_said letters month day year time) (parse_time_of_day clock half)
+    then option_and_then (λ time. parse_date letters month day year time) (parse_time_of_day clock half)
     else None

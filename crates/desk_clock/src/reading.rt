@@ -4,7 +4,7 @@ ghost use Rattle.hazard_types.specs.declared.codes.LocalZone.{LocalZone as Zone}
 ghost use Rattle.desk_clock.specs.LocalText.{local_line_of};
 ghost use Rattle.std.specs.List.{list_all};
 ghost use Rattle.std.specs.Char.{is_ascii_alphabetic};
-ghost use Rattle.desk_clock.specs.LocalWords.{digit, number_of, half_of, parse_time_of_day, year_said, date_said, words_say, are_letters};
+ghost use Rattle.desk_clock.specs.LocalWords.{digit, number_of, half_of, parse_time_of_day, parse_year, parse_date, parse_words, are_letters};
 ghost use Rattle.desk_clock.specs.LocalForm.{written_in, minute_of, read_of, ReadsAs, LacksAbbreviation};
 
 use crate::abbreviations::Abbreviation;
@@ -86,9 +86,9 @@ fn parse_time_of_day(clock: &[u8], half: &[u8]) -> Option<(u8, u8)>
 }
 
 /// Returns the number of four digits.
-#[tactic(auto, unfolding(crate::specs::LocalWords::year_said))]
-fn year_said(word: &[u8]) -> Option<u16>
-    ensures { result ≡ year_said word.now }
+#[tactic(auto, unfolding(crate::specs::LocalWords::parse_year))]
+fn parse_year(word: &[u8]) -> Option<u16>
+    ensures { result ≡ parse_year word.now }
 {
     if word.len() != 4 {
         return None;
@@ -100,19 +100,19 @@ fn year_said(word: &[u8]) -> Option<u16>
 
 /// Returns the values of a line, from its abbreviation, the words of its date, and its hour and
 /// minute.
-#[tactic(auto, unfolding(crate::specs::LocalWords::date_said))]
-fn date_said(
+#[tactic(auto, unfolding(crate::specs::LocalWords::parse_date))]
+fn parse_date(
     letters: &[u8],
     month: &[u8],
     day: &[u8],
     year: &[u8],
     time: (u8, u8),
 ) -> Option<Written>
-    ensures { result ≡ date_said letters.now month.now day.now year.now time }
+    ensures { result ≡ parse_date letters.now month.now day.now year.now time }
 {
     let place = month_index(month)?;
     let day = number_of(day)?;
-    let year = year_said(year)?;
+    let year = parse_year(year)?;
     Some(Written {
         abbreviation: parse_abbreviation(letters),
         time: LocalTime {
@@ -126,8 +126,8 @@ fn date_said(
 }
 
 /// Returns the values of the seven words of a line, if each word has its form.
-#[tactic(auto, unfolding(crate::specs::LocalWords::words_say))]
-fn words_say(
+#[tactic(auto, unfolding(crate::specs::LocalWords::parse_words))]
+fn parse_words(
     clock: &[u8],
     half: &[u8],
     letters: &[u8],
@@ -137,11 +137,11 @@ fn words_say(
     year: &[u8],
 ) -> Option<Written>
     ensures { result
-        ≡ words_say clock.now half.now letters.now weekday.now month.now day.now year.now }
+        ≡ parse_words clock.now half.now letters.now weekday.now month.now day.now year.now }
 {
     if are_letters(letters) && is_weekday(weekday) {
         let time = parse_time_of_day(clock, half)?;
-        date_said(letters, month, day, year, time)
+        parse_date(letters, month, day, year, time)
     } else {
         None
     }
@@ -169,7 +169,7 @@ fn written_in(b: &[u8]) -> Option<Written>
     let weekday = after_aside(after_word(letters));
     let month = after_word(weekday);
     let day = after_word(month);
-    words_say(
+    parse_words(
         first_word(b),
         first_word(half),
         first_word(letters),

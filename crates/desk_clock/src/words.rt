@@ -12,7 +12,7 @@ fn blank_at(b: &[u8]) -> Option<usize>
     b.iter().position(|c| is_blank(*c))
 }
 
-fn letter_at(b: &[u8]) -> Option<usize>
+fn find_nonblank(b: &[u8]) -> Option<usize>
     ensures { result ≡ position (λ c. not (is_blank c)) b.now }
 {
     b.iter().position(|c| !is_blank(*c))
@@ -37,7 +37,7 @@ pub fn first_word(b: &[u8]) -> &[u8]
 fn past_blanks(b: &[u8]) -> &[u8]
     ensures { result.now ≡ past_blanks b.now }
 {
-    match letter_at(b) {
+    match find_nonblank(b) {
         Some(from) => &b[from..],
         None => &b[b.len()..],
     }

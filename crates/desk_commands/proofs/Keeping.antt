@@ -9,7 +9,7 @@ use Rattle.hazard_types.specs.declared.codes.Class.TheVariants.{O}
 use Rattle.office_core.specs.Histories.{Entered, IsLegal, StandOnce, entries_of}
 use Rattle.office_core.specs.State.{State}
 use Rattle.office_journal.specs.Changes.{Change, Leaves}
-use Rattle.office_journal.specs.Given.{Gave, IsFront, MayPend, history_behind}
+use Rattle.office_journal.specs.Given.{Gave, IsFront, MayPend, history_after}
 use Rattle.office_journal.specs.Grown.{KeepsHistory, NonePends, StaysSince, Stood}
 use Rattle.office_journal.specs.Histories.{History, ImageOf, fits}
 use Rattle.office_journal.specs.Kept.{Holds, disk_of, state_of}
@@ -42,10 +42,10 @@ module _ {D : Type 0} (d : Disks D)
   }
 
   pub keeps : RequestsStandOnce → (bytes file : List ℕ) (h : History) (given : List Gave) (answered : List (Stood D)) (disk : D) (opened kept : KeptOffice D d) → CrashLaw kept → IsOpened d disk opened → ImageOf bytes file h
-      → Carries d (d.faults disk) file (history_behind h given) (MayPend NonePends given) kept → LeavesOnly (d.crash (disk_of opened)) (d.crash (disk_of kept)) (IsFront NonePends given [] file h)
+      → Carries d (d.faults disk) file (history_after h given) (MayPend NonePends given) kept → LeavesOnly (d.crash (disk_of opened)) (d.crash (disk_of kept)) (IsFront NonePends given [] file h)
       → All (λ stood. StaysSince d stood (disk_of kept) NonePends given file h) answered → KeepsHistory d disk (disk_of opened) (disk_of kept) bytes file h given answered (state_of kept)
   keeps stand_once bytes file h given answered disk opened kept law first found carries run stay =
-      let last = history_behind h given in
+      let last = history_after h given in
       let front = IsFront NonePends given [] file h in
       record {
         found = found;

@@ -10,7 +10,7 @@ use Rattle.office_types.specs.declared.refusal.Refusal.{Refusal}
 use Rattle.request_json.specs.declared.asked.Asked.{Asked}
 use Rattle.office_core.specs.Agreement.{ReadsAsTheBoard}
 use Rattle.office_journal.specs.Changes.{Change, Leaves}
-use Rattle.office_journal.specs.Given.{Gave, Gives, IsFront, MayPend, history_behind, pends_after, with_given}
+use Rattle.office_journal.specs.Given.{Gave, Gives, IsFront, MayPend, history_after, pends_after, with_given}
 use Rattle.office_journal.specs.Grown.{StaysSince, Stood}
 use Rattle.office_journal.specs.Histories.{History}
 use Rattle.office_journal.specs.Kept.{Holds, disk_of, state_of}
@@ -156,7 +156,7 @@ module _ {D : Type 0} (d : Disks D) (start : ℕ) where
 
       -- behind lines that gave this
       abbrev pub Went : List ℕ → History → (Change → Type 0) → List Gave → KeptOffice D d → KeptOffice D d → Type 0
-      Went file h may given kept next = Carries file (history_behind h given) (MayPend may given) next × LeavesOnly (d.crash (disk_of kept)) (d.crash (disk_of next)) (IsFront may given [] file h)
+      Went file h may given kept next = Carries file (history_after h given) (MayPend may given) next × LeavesOnly (d.crash (disk_of kept)) (d.crash (disk_of next)) (IsFront may given [] file h)
 
       no_lines : (file : List ℕ) (h : History) (may : Change → Type 0) (kept next : KeptOffice D d) → next ≡ kept → Carries file h may kept → Went file h may [] kept next
       no_lines file h may kept next same carries =
@@ -194,7 +194,7 @@ module _ {D : Type 0} (d : Disks D) (start : ℕ) where
         StaysBelow given stood = StaysSince d stood (disk_of z.kept) may given file first
 
         -- as a line had been answered, where the lines behind it went so
-        stays_from : (held rest : List Gave) (h : History) (pends : Change → Type 0) (next : KeptOffice D d) → history_behind first held ≡ h → ((change : Change) → pends change → MayPend may held change)
+        stays_from : (held rest : List Gave) (h : History) (pends : Change → Type 0) (next : KeptOffice D d) → history_after first held ≡ h → ((change : Change) → pends change → MayPend may held change)
             → LeavesOnly (d.crash (disk_of next)) (d.crash (disk_of z.kept)) (IsFront pends rest [] file h) → StaysBelow (held ++ rest) (record { held = held; disk = disk_of next })
         stays_from held rest h pends next is fewer run = record {
           more = rest;
@@ -206,7 +206,7 @@ module _ {D : Type 0} (d : Disks D) (start : ℕ) where
         }
 
         pub stays : (held : List Gave) (h : History) (pends : Change → Type 0) (s : Scripted (KeptOffice D d) C) (lines : List (List ℕ)) (said : List Said) (goes : Goes d k s lines said z)
-            → history_behind first held ≡ h → ((change : Change) → pends change → MayPend may held change) → Carries file h pends s.kept → All (StaysBelow (held ++ given_by said)) (stood_in d k held s lines said z goes)
+            → history_after first held ≡ h → ((change : Change) → pends change → MayPend may held change) → Carries file h pends s.kept → All (StaysBelow (held ++ given_by said)) (stood_in d k held s lines said z goes)
         stays held h pends s [] [] goes is fewer carries = All-nil (StaysBelow (held ++ []))
         stays held h pends s [] (w ∷ said) goes is fewer carries = absurd goes
         stays held h pends s (line ∷ lines) [] goes is fewer carries = absurd goes
@@ -219,7 +219,7 @@ module _ {D : Type 0} (d : Disks D) (start : ℕ) where
             let then_pends = pends_after pends gave in
             let one = line_goes file h pends s (fit line) w next goes.1 carries in
             let run = (lines_go file mid then_pends next lines said z goes.2 one.0).1 in
-            let so : history_behind first now ≡ mid = behind_append first held (gave ∷ []) ∙ ap (λ (g : History). with_given g gave) is in
+            let so : history_after first now ≡ mid = behind_append first held (gave ∷ []) ∙ ap (λ (g : History). with_given g gave) is in
             let fewer_now : (change : Change) → then_pends change → MayPend may now change = λ change p. pends_append may held (gave ∷ []) change (pends_weaker pends (MayPend may held) (gave ∷ []) fewer change p) in
             let behind = stays now mid then_pends next lines said goes.2 so fewer_now one.0 in
             subst (λ (given : List Gave). All (StaysBelow given) (stood_in d k held s (line ∷ lines) (w ∷ said) z goes)) (append_assoc held (gave ∷ []) rest)

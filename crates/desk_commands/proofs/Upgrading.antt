@@ -11,7 +11,7 @@ use Rattle.office_types.specs.declared.request.Edition.TheVariants.{One, Two}
 use Rattle.office_core.specs.Agreement.{ReadsAsTheBoard}
 use Rattle.office_core.specs.State.{State, in_edition}
 use Rattle.office_journal.specs.Changes.{Change, Leaves, changed}
-use Rattle.office_journal.specs.Given.{Gave, IsFront, MayPend, history_behind}
+use Rattle.office_journal.specs.Given.{Gave, IsFront, MayPend, history_after}
 use Rattle.office_journal.specs.Grown.{NonePends}
 use Rattle.office_journal.specs.Histories.{History}
 use Rattle.office_journal.specs.Kept.{Holds, disk_of, gate_of, state_of}
@@ -20,7 +20,7 @@ use Rattle.office_journal.specs.declared.answers.Upgrade.{Upgrade}
 use Rattle.office_journal.specs.declared.answers.Upgrade.TheVariants as upgrade
 use Rattle.office_journal.specs.declared.kept.KeptOffice.{KeptOffice}
 use Rattle.byte_streams.specs.Flows.{Outflow}
-use Rattle.desk_commands.specs.Commands.{IsMarked, TellsUpgrade, UpgradeOutcome, mark_given, marks_from}
+use Rattle.desk_commands.specs.Commands.{IsMarked, WritesUpgrade, UpgradeOutcome, mark_given, marks_from}
 use Rattle.office_journal.proofs.Fronts.{at_start}
 use Rattle.desk_commands.proofs.Scripting.{Carries, less, pending_may, touched}
 
@@ -56,7 +56,7 @@ module _ {D : Type 0} (d : Disks D) (old new : KeptOffice D d) where
       omega (arith, less)
 
   -- what it comes to, told of the disk that is handed back
-  pub outcome : (u : Upgrade) (next : D) (before after : Outflow) (status : ℕ) → Says u → next ≡ disk_of new → TellsUpgrade u before after status → UpgradeOutcome d next old new before after status
+  pub outcome : (u : Upgrade) (next : D) (before after : Outflow) (status : ℕ) → Says u → next ≡ disk_of new → WritesUpgrade u before after status → UpgradeOutcome d next old new before after status
   outcome upgrade.Done next before after status says is told = inl (ap (λ (s : State). s.edition) (says.done refl).1, inr (has_room says), told)
   outcome upgrade.Already next before after status says is told =
       inl (ap (λ (s : State). s.edition) (says.state (λ q. absurd (cc))) ∙ says.already.0 refl, inl (says.already.0 refl, is ∙ (says.untouched (λ q. absurd (cc)) (λ q. absurd (cc))).0), told)
@@ -70,7 +70,7 @@ module _ {D : Type 0} (d : Disks D) (old new : KeptOffice D d) where
   module _ (start : ℕ) (are_crashes : (x : D) → AreCrashes (d.crash x)) where
     -- the history behind what was given
     pub record Upgraded (file : List ℕ) (h : History) (given : List Gave) : Type 0 where
-      pub carries : Carries d start file (history_behind h given) (MayPend NonePends given) new
+      pub carries : Carries d start file (history_after h given) (MayPend NonePends given) new
       pub run : LeavesOnly (d.crash (disk_of old)) (d.crash (disk_of new)) (IsFront NonePends given [] file h)
 
     -- nothing was given
@@ -102,7 +102,7 @@ module _ {D : Type 0} (d : Disks D) (old new : KeptOffice D d) where
           (less file h P OnlyMark (λ change is. ⊎_elim (λ was. inl (pending_may carries.pending NonePends carries.which change was)) (λ mark. inr mark.0) is))
           (says.any_moment file h carries.pending carries.holds)
 
-    pub upgraded : (u : Upgrade) (file : List ℕ) (h : History) (next : D) (before after : Outflow) (status : ℕ) (says : Says u) (is : next ≡ disk_of new) (told : TellsUpgrade u before after status)
+    pub upgraded : (u : Upgrade) (file : List ℕ) (h : History) (next : D) (before after : Outflow) (status : ℕ) (says : Says u) (is : next ≡ disk_of new) (told : WritesUpgrade u before after status)
         → Carries d start file h NonePends old → Upgraded file h (mark_given d next old new before after status (outcome u next before after status says is told))
     unfolding outcome
     upgraded upgrade.Done file h next before after status says is told carries =

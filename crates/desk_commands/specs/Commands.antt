@@ -21,7 +21,7 @@ use Rattle.office_core.specs.State.{State}
 use Rattle.board_text.specs.Rows.{board_text}
 use Rattle.event_life.specs.Shown.{shown_at}
 use Rattle.office_journal.specs.Changes.{Change, Leaves}
-use Rattle.office_journal.specs.Given.{Gave, history_behind}
+use Rattle.office_journal.specs.Given.{Gave, history_after}
 use Rattle.office_journal.specs.Grown.{KeepsHistory}
 use Rattle.office_journal.specs.Histories.{History, ImageOf, empty}
 use Rattle.office_journal.specs.Kept.{Holds, disk_of, gate_of, state_of}
@@ -74,12 +74,12 @@ fault_text (Twice key) = codes "Twice " ++ key
 fault_text TooLong = codes "TooLong"
 
 -- what is told of an upgrade
-abbrev pub TellsUpgrade : Upgrade → Outflow → Outflow → ℕ → Type 0
-TellsUpgrade upgrade.Done old new status = TellsText (codes "edition 2\n") old new status
-TellsUpgrade upgrade.Already old new status = TellsText (codes "edition 2\n") old new status
-TellsUpgrade upgrade.Full old new status = Telling [] old new (Some JournalFull) status
-TellsUpgrade upgrade.DiskFault old new status = Telling [] old new (Some DiskFault) status
-TellsUpgrade upgrade.OutOfMemory old new status = Telling [] old new (Some OutOfMemory) status
+abbrev pub WritesUpgrade : Upgrade → Outflow → Outflow → ℕ → Type 0
+WritesUpgrade upgrade.Done old new status = TellsText (codes "edition 2\n") old new status
+WritesUpgrade upgrade.Already old new status = TellsText (codes "edition 2\n") old new status
+WritesUpgrade upgrade.Full old new status = Telling [] old new (Some JournalFull) status
+WritesUpgrade upgrade.DiskFault old new status = Telling [] old new (Some DiskFault) status
+WritesUpgrade upgrade.OutOfMemory old new status = Telling [] old new (Some OutOfMemory) status
 
 -- What becomes of an upgrade: the edition is Two, and was before, so that the disk is as it was, or the mark has room; it has none, the disk failed in this call, or memory lacked, and the edition is as it was. But for the disk's fault the disk is as it was then.
 abbrev pub UpgradeOutcome : {D : Type 0} (d : Disks D) → D → KeptOffice D d → KeptOffice D d → Outflow → Outflow → ℕ → Type 0
@@ -103,8 +103,8 @@ module _ {D : Type 0} (d : Disks D) (next : D) (opened after : KeptOffice D d) (
   mark_given (inr (inr (inr lacks))) = []
 
 -- The board at a minute: its text, or the clock's fault where the minute is out; or memory lacked.
-abbrev pub TellsBoard : State → ℤ → Outflow → Outflow → ℕ → Type 0
-TellsBoard s at old new status =
+abbrev pub WritesBoard : State → ℤ → Outflow → Outflow → ℕ → Type 0
+WritesBoard s at old new status =
     ((is_out at ≡ false) × TellsText (board_text (shown_at (nat_abs at) s.rows)) old new status)
     ⊎ ((is_out at ≡ true) × Telling [] old new (Some ClockOut) status)
     ⊎ Telling [] old new (Some OutOfMemory) status
@@ -162,7 +162,7 @@ module _ {D : Type 0} (d : Disks D) where
     pub first : IsOpened d disk opened
     pub at : ℤ
     pub reading : IsBoardAt k minute clock clock' at
-    pub told : TellsBoard (state_of opened) at old new status
+    pub told : WritesBoard (state_of opened) at old new status
     pub handed : next ≡ disk_of opened
     pub history : Stays disk next opened
     pub later : d.faults disk ≤ d.faults next
@@ -185,7 +185,7 @@ module _ {D : Type 0} (d : Disks D) where
     pub marked : (file : List ℕ) (h : History) → Holds d.seen d.crash opened file h None → IsMarked opened after file h
     pub later : d.faults disk ≤ d.faults next
     pub history : (bytes : List ℕ) → d.seen disk ≡ Some bytes → (file : List ℕ) × (h : History)
-        × KeepsHistory d disk (disk_of opened) next bytes file h (mark_given d next opened after old new status outcome) [] (state_of after) × ((history_behind h (mark_given d next opened after old new status outcome)).edition ≡ (state_of after).edition)
+        × KeepsHistory d disk (disk_of opened) next bytes file h (mark_given d next opened after old new status outcome) [] (state_of after) × ((history_after h (mark_given d next opened after old new status outcome)).edition ≡ (state_of after).edition)
 
   -- the file is as it was, and so are what a crash leaves, at any moment, and the count of faults
   abbrev pub IsLeft : D → D → Type 0

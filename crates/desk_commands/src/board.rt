@@ -2,7 +2,7 @@
 ghost use Rattle.std.specs.Prelude.{◌≡◌, ◌⊎◌};
 ghost use Rattle.office_journal.specs.Kept.{state_of};
 ghost use Rattle.desk_commands.specs.Opening.{IsUnopenedRun};
-ghost use Rattle.desk_commands.specs.Commands.{IsBoardAt, IsBoardRun, TellsBoard};
+ghost use Rattle.desk_commands.specs.Commands.{IsBoardAt, IsBoardRun, WritesBoard};
 
 use crate::ended::Ended;
 use crate::opening::open;
@@ -17,8 +17,8 @@ use std::alloc::Global;
 
 /// Writes the board at minute `at` since 2000-01-01T00:00Z UTC, ends the run and returns the exit
 /// status.
-fn tell_board<D: Disk, K: Sink>(alloc: Global, kept: &KeptOffice<D>, at: i64, output: &mut K) -> u8
-    ensures { TellsBoard (state_of kept.now) at
+fn write_board<D: Disk, K: Sink>(alloc: Global, kept: &KeptOffice<D>, at: i64, output: &mut K) -> u8
+    ensures { WritesBoard (state_of kept.now) at
         (K.outflow output.old) (K.outflow output.new) result }
 {
     match kept.look(alloc, &Query::Board, at) {
@@ -58,7 +58,7 @@ pub fn run_board<K: Sink, D: Disk, C: Clock>(
         Ok(kept) => {
             kept.a_crash_leaves_the_history();
             let at = board_at(minute, clock);
-            let status = tell_board(alloc, &kept, at, output);
+            let status = write_board(alloc, &kept, at, output);
             Ended {
                 status,
                 disk: kept.into_disk(),

@@ -108,7 +108,7 @@ fn make<D: Disk>(alloc: Global, disk: D, settings: &[u8]) -> Result<KeptOffice<D
 }
 
 /// Writes `ready`, ends the run and returns the exit status.
-fn tell_made<K: Sink, D: Disk>(output: &mut K, _kept: &KeptOffice<D>) -> u8
+fn write_made<K: Sink, D: Disk>(output: &mut K, _kept: &KeptOffice<D>) -> u8
     ensures { TellsText (codes "ready\n") (K.outflow output.old) (K.outflow output.new) result }
 {
     tell(output, b"ready\n")
@@ -139,7 +139,7 @@ pub fn run_init<S: Source, K: Sink, D: Disk>(
     };
     match make(alloc, disk, settings.as_slice()) {
         Ok(kept) => Ended {
-            status: tell_made(output, &kept),
+            status: write_made(output, &kept),
             disk: kept.into_disk(),
         },
         Err((disk, end)) => Ended {

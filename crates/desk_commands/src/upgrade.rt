@@ -1,7 +1,7 @@
 //! The command `upgrade`.
 ghost use Rattle.std.specs.Prelude.{◌⊎◌};
 ghost use Rattle.desk_commands.specs.Opening.{IsUnopenedRun};
-ghost use Rattle.desk_commands.specs.Commands.{IsUpgradeRun, TellsUpgrade};
+ghost use Rattle.desk_commands.specs.Commands.{IsUpgradeRun, WritesUpgrade};
 
 use crate::ended::Ended;
 use crate::opening::open;
@@ -13,8 +13,8 @@ use program_ends::{End, end_at_once, tell};
 use std::alloc::Global;
 
 /// Writes what became of an upgrade, ends the run and returns the exit status.
-fn tell_upgrade<K: Sink>(output: &mut K, upgrade: Upgrade) -> u8
-    ensures { TellsUpgrade upgrade (K.outflow output.old) (K.outflow output.new) result }
+fn write_upgrade<K: Sink>(output: &mut K, upgrade: Upgrade) -> u8
+    ensures { WritesUpgrade upgrade (K.outflow output.old) (K.outflow output.new) result }
 {
     match upgrade {
         Upgrade::Done => tell(output, b"edition 2\n"),
@@ -38,7 +38,7 @@ pub fn run_upgrade<K: Sink, D: Disk>(alloc: Global, output: &mut K, disk: D) -> 
         Ok(mut kept) => {
             kept.a_crash_leaves_the_history();
             let upgrade = kept.upgrade(alloc);
-            let status = tell_upgrade(output, upgrade);
+            let status = write_upgrade(output, upgrade);
             kept.a_crash_leaves_the_history();
             Ended {
                 status,

@@ -3,7 +3,7 @@ ghost use Rattle.std.specs.Prelude.{◌≡◌, ◌≤◌, ◌+◌, ◌-◌, ◌^
 ghost use Rattle.std.specs.Prelude.{OnErr, IsErr, IsTrue, Contains, []};
 ghost use Rattle.desk_traits.specs.Faults.{next_count};
 ghost use Rattle.byte_streams.specs.Flows.{Reads, Writes};
-ghost use Rattle.byte_streams.specs.StreamMemory.{FailsAsTold};
+ghost use Rattle.byte_streams.specs.StreamMemory.{FailsWhereListed};
 ghost use Rattle.desk_links.specs.LinkMemory.{KeepsIn, KeepsOut, link_input, link_output};
 ghost use Rattle.desk_links.specs.LinkMemory.{link_with, next_piece, with_failed_read};
 
@@ -163,7 +163,7 @@ impl Sink for MemLink {
 
         // It fails exactly at the listed calls and where memory runs out; otherwise it takes all
         // bytes.
-        ensures failing { FailsAsTold (Contains self.old.failing (next_count self.old.calls))
+        ensures failing { FailsWhereListed (Contains self.old.failing (next_count self.old.calls))
             self.old.lacked self.new.lacked result }
         ensures amount { IfOk result (λ n. n ≡ length bytes.now) }
         ensures called { self.new.calls ≡ next_count self.old.calls }

@@ -2,7 +2,7 @@
 ghost use Rattle.std.specs.Prelude.{◌≡◌, ◌≤◌, ◌<◌, ◌+◌, ◌-◌, ◌^◌, ◌++◌, ◌∷◌, []};
 ghost use Rattle.std.specs.Prelude.{All, length, drop, min, IfOk, OnOk, OnErr};
 ghost use Rattle.desk_links.specs.Links.{GivesLink};
-ghost use Rattle.desk_links.specs.Listening.{RoseAsTold};
+ghost use Rattle.desk_links.specs.Listening.{RoseWithFailure};
 ghost use Rattle.desk_links.specs.LinkMemory.{IsIdle, IsUntouched, Lends, all_links, dealt};
 ghost use Rattle.desk_links.specs.LinkMemory.{door_state, door_with, doors_with, first_door};
 ghost use Rattle.desk_links.specs.LinkMemory.{first_list, link_state, port_state, port_with};
@@ -190,7 +190,7 @@ impl Port for MemPort {
         ensures count { IfOk result (λ list. length list ≡ doors) }
         ensures unused { IfOk result (λ list. All IsIdle list) }
         ensures later { self.old.faults ≤ self.new.faults }
-        ensures counted { RoseAsTold self.old.faults self.new.faults result }
+        ensures counted { RoseWithFailure self.old.faults self.new.faults result }
         ensures faults { self.new.faults ≡ self.old.faults }
         ensures back { self.new.back ≡ self.old.back }
         ensures numbers { OnOk result (self.new.numbers ≡ self.old.numbers ++ port ∷ []) }

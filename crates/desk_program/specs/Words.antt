@@ -19,25 +19,25 @@ parse_one_word word =
     else None
 
 -- `board --at STAMP`
-abbrev pub board_words : List ℕ → List ℕ → List ℕ → Option Command
-board_words a b c = if bytes_eq a (codes "board") && bytes_eq b (codes "--at") then option_map (λ m. command.Board (Some m)) (stamp_at c) else None
+abbrev pub parse_board_words : List ℕ → List ℕ → List ℕ → Option Command
+parse_board_words a b c = if bytes_eq a (codes "board") && bytes_eq b (codes "--at") then option_map (λ m. command.Board (Some m)) (stamp_at c) else None
 
 -- `dry OFFICE STAMP`
-abbrev pub dry_words : List ℕ → List ℕ → List ℕ → Option Command
-dry_words a b c = if bytes_eq a (codes "dry") && is_office b then option_map (λ m. command.Dry (record { office = b; minute = m })) (stamp_at c) else None
+abbrev pub parse_dry_words : List ℕ → List ℕ → List ℕ → Option Command
+parse_dry_words a b c = if bytes_eq a (codes "dry") && is_office b then option_map (λ m. command.Dry (record { office = b; minute = m })) (stamp_at c) else None
 
 -- `drill NUMBER COUNT`
-abbrev pub drill_words : List ℕ → List ℕ → List ℕ → Option Command
-drill_words a b c = option_map (λ drill. command.Drill drill) (parse_drill a b c)
+abbrev pub parse_drill_words : List ℕ → List ℕ → List ℕ → Option Command
+parse_drill_words a b c = option_map (λ drill. command.Drill drill) (parse_drill a b c)
 
 -- `board --at STAMP`, `dry OFFICE STAMP` or `drill NUMBER COUNT`
-abbrev pub three_words : List ℕ → List ℕ → List ℕ → Option Command
-three_words a b c = option_or (board_words a b c) (option_or (dry_words a b c) (drill_words a b c))
+abbrev pub parse_three_words : List ℕ → List ℕ → List ℕ → Option Command
+parse_three_words a b c = option_or (parse_board_words a b c) (option_or (parse_dry_words a b c) (parse_drill_words a b c))
 
 -- the command that the words are, all of them
 unfoldable pub command_of : List (List ℕ) → Option Command
 command_of (a ∷ []) = parse_one_word a
-command_of (a ∷ b ∷ c ∷ []) = three_words a b c
+command_of (a ∷ b ∷ c ∷ []) = parse_three_words a b c
 command_of _ = None
 
 -- its values have their forms

@@ -1,7 +1,7 @@
 //! The arguments of the command line.
 ghost use Rattle.std.specs.Prelude.{◌≡◌, IfSome};
-ghost use Rattle.desk_program.specs.Words.{IsCommand, board_words, command_of, drill_words};
-ghost use Rattle.desk_program.specs.Words.{dry_words, parse_one_word, three_words};
+ghost use Rattle.desk_program.specs.Words.{IsCommand, parse_board_words, command_of, parse_drill_words};
+ghost use Rattle.desk_program.specs.Words.{parse_dry_words, parse_one_word, parse_three_words};
 
 use desk_drill::{Drill, parse_drill};
 use hazard_types::{List, Minute, Text, read_stamp};
@@ -53,8 +53,8 @@ fn parse_one_word(word: &[u8]) -> Option<Command>
 }
 
 /// The command `board --at STAMP`.
-fn board_words(command: &[u8], option: &[u8], stamp: &[u8]) -> Option<Command>
-    ensures { result ≡ board_words command.now option.now stamp.now }
+fn parse_board_words(command: &[u8], option: &[u8], stamp: &[u8]) -> Option<Command>
+    ensures { result ≡ parse_board_words command.now option.now stamp.now }
 {
     if command != b"board".as_slice() || option != b"--at".as_slice() {
         return None;
@@ -64,8 +64,8 @@ fn board_words(command: &[u8], option: &[u8], stamp: &[u8]) -> Option<Command>
 }
 
 /// The command `dry OFFICE STAMP`.
-fn dry_words(command: &[u8], office: &[u8], stamp: &[u8]) -> Option<Command>
-    ensures value { result ≡ dry_words command.now office.now stamp.now }
+fn parse_dry_words(command: &[u8], office: &[u8], stamp: &[u8]) -> Option<Command>
+    ensures value { result ≡ parse_dry_words command.now office.now stamp.now }
     ensures forms { IfSome result IsCommand }
 {
     if command != b"dry".as_slice() {
@@ -77,8 +77,8 @@ fn dry_words(command: &[u8], office: &[u8], stamp: &[u8]) -> Option<Command>
 }
 
 /// The command `drill NUMBER COUNT`.
-fn drill_words(command: &[u8], number: &[u8], count: &[u8]) -> Option<Command>
-    ensures value { result ≡ drill_words command.now number.now count.now }
+fn parse_drill_words(command: &[u8], number: &[u8], count: &[u8]) -> Option<Command>
+    ensures value { result ≡ parse_drill_words command.now number.now count.now }
     ensures forms { IfSome result IsCommand }
 {
     let drill = parse_drill(command, number, count)?;
@@ -86,19 +86,19 @@ fn drill_words(command: &[u8], number: &[u8], count: &[u8]) -> Option<Command>
 }
 
 /// The command of three words.
-fn three_words(first: &[u8], second: &[u8], third: &[u8]) -> Option<Command>
-    ensures value { result ≡ three_words first.now second.now third.now }
+fn parse_three_words(first: &[u8], second: &[u8], third: &[u8]) -> Option<Command>
+    ensures value { result ≡ parse_three_words first.now second.now third.now }
     ensures forms { IfSome result IsCommand }
 {
-    let board = board_words(first, second, third);
+    let board = parse_board_words(first, second, third);
     if board.is_some() {
         return board;
     }
-    let dry = dry_words(first, second, third);
+    let dry = parse_dry_words(first, second, third);
     if dry.is_some() {
         return dry;
     }
-    drill_words(first, second, third)
+    parse_drill_words(first, second, third)
 }
 
 /// Parses the arguments. `None` exactly if they are none of these commands; `serve` is parsed by
@@ -110,7 +110,7 @@ pub fn command_of(words: &List<Text>) -> Option<Command>
 {
     match words.as_slice() {
         [word] => parse_one_word(word.as_slice()),
-        [first, second, third] => three_words(
+        [first, second, third] => parse_three_words(
             first.as_slice(),
             second.as_slice(),
             third.as_slice(),

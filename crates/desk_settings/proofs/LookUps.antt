@@ -14,7 +14,7 @@ use Rattle.std.specs.Cmp.{tied_itself}
 use Rattle.std.proofs.lemmas.Bool.Decides.{nat_tests}
 use Rattle.hazard_types.specs.Places.{Place, by_place}
 use Rattle.hazard_types.proofs.OrderLaws.{by_place_total, by_place_ties}
-use Rattle.desk_settings.specs.Looking.{name_beside}
+use Rattle.desk_settings.specs.Looking.{name_for_zone}
 use Rattle.desk_settings.proofs.ZoneOrder.{Pair}
 
 -- ---- desks
@@ -81,7 +81,7 @@ rising z (p ∷ pairs) (suc i) zero d h le lt = absurd (omega arith)
 rising z (p ∷ pairs) (suc i) (suc j) d h le lt = rising z pairs i j d h.1 (omega arith) (omega arith)
 
 -- the first pair that ties stands where a tie stands
-at_tie : (z : Place) (pairs : List Pair) (i : ℕ) (d : Pair) → IsStrictlySortedBy by_place (keys_of pairs) → i < length pairs → by_place (get_or pairs i d).0 z ≡ Equal → name_beside pairs z ≡ Some (get_or pairs i d).1
+at_tie : (z : Place) (pairs : List Pair) (i : ℕ) (d : Pair) → IsStrictlySortedBy by_place (keys_of pairs) → i < length pairs → by_place (get_or pairs i d).0 z ≡ Equal → name_for_zone pairs z ≡ Some (get_or pairs i d).1
 unfolding IsStrictlySortedBy
 at_tie z [] i d h lt tie = absurd (omega arith)
 at_tie z (p ∷ pairs) zero d h lt tie = rw tie refl
@@ -90,12 +90,12 @@ at_tie z (p ∷ pairs) (suc i) d h lt tie =
     let first : by_place p.0 z ≡ Less = subst (λ (q : Place). by_place p.0 q ≡ Less) (by_place_ties (get_or pairs i d).0 z tie) less in
     rw first (at_tie z pairs i d h.1 (omega arith) tie)
 
-no_tie : (z : Place) (pairs : List Pair) → ((k : ℕ) (d : Pair) → k < length pairs → is_eq (by_place (get_or pairs k d).0 z) ≡ false) → name_beside pairs z ≡ None
+no_tie : (z : Place) (pairs : List Pair) → ((k : ℕ) (d : Pair) → k < length pairs → is_eq (by_place (get_or pairs k d).0 z) ≡ false) → name_for_zone pairs z ≡ None
 no_tie z [] h = refl
 no_tie z (p ∷ pairs) h = rw (h 0 p (omega arith)) (no_tie z pairs (λ k d lt. h (suc k) d (omega arith)))
 
 -- what a search among sorted zones finds
-pub searched : (z : Place) (pairs : List Pair) (i : ℕ) (d : Pair) → IsStrictlySortedBy by_place (keys_of pairs) → i < length pairs → IsBinarySearchResult (λ (p : Pair). by_place p.0 z) pairs (Ok i) → name_beside pairs z ≡ Some (get_or pairs i d).1
+pub searched : (z : Place) (pairs : List Pair) (i : ℕ) (d : Pair) → IsStrictlySortedBy by_place (keys_of pairs) → i < length pairs → IsBinarySearchResult (λ (p : Pair). by_place p.0 z) pairs (Ok i) → name_for_zone pairs z ≡ Some (get_or pairs i d).1
 searched z pairs i d h lt found = at_tie z pairs i d h lt (found d)
 
 lower : (m n : ℕ) → nat_lt m n ≡ true → m < n
@@ -104,7 +104,7 @@ lower m n h = grind (arith, nat_tests)
 no_lower : (m n : ℕ) → nat_lt m n ≡ false → n ≤ m
 no_lower m n h = grind (arith, nat_tests)
 
-pub missed : (z : Place) (pairs : List Pair) (i : ℕ) → IsStrictlySortedBy by_place (keys_of pairs) → IsBinarySearchResult (λ (p : Pair). by_place p.0 z) pairs (Err i) → name_beside pairs z ≡ None
+pub missed : (z : Place) (pairs : List Pair) (i : ℕ) → IsStrictlySortedBy by_place (keys_of pairs) → IsBinarySearchResult (λ (p : Pair). by_place p.0 z) pairs (Err i) → name_for_zone pairs z ≡ None
 missed z pairs i h parted =
     let p = parted (λ a b d le lt. rising z pairs a b d h le lt) in
     no_tie z pairs (λ k d lt. ⊎_elim (λ (low : nat_lt k i ≡ true). ap is_eq (p.0 k d (omega arith) (lower k i low))) (λ (high : nat_lt k i ≡ false). ap is_eq (p.1 k d (no_lower k i high) lt)) (cases_Bool (nat_lt k i)))
@@ -126,10 +126,10 @@ stands_behind : (z : Place) (p : Pair) (pairs : List Pair) (o : Option (List ℕ
 stands_behind z p pairs None differs h = absent_behind z p pairs differs h
 stands_behind z p pairs (Some name) differs h = later (z, name) p pairs h
 
-pub name_found : (z : Place) (pairs : List Pair) → Stands pairs z (name_beside pairs z)
+pub name_found : (z : Place) (pairs : List Pair) → Stands pairs z (name_for_zone pairs z)
 name_found z [] = λ c. omega (arith, c.1)
 name_found z (p ∷ pairs) =
     elim (cases_Bool (is_eq (by_place p.0 z))) [
       | inl same ↦ let here : p.0 ≡ z = by_place_ties p.0 z (equal_is (by_place p.0 z) same) in rw same (0, omega arith, ap (λ (q : Place). (q, p.1)) here)
-      | inr differs ↦ rw differs (stands_behind z p pairs (name_beside pairs z) differs (name_found z pairs))
+      | inr differs ↦ rw differs (stands_behind z p pairs (name_for_zone pairs z) differs (name_found z pairs))
     ]

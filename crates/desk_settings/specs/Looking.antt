@@ -17,6 +17,6 @@ category_place Flw = 6
 category_place Fls = 7
 
 -- the name beside a zone, where it has one
-abbrev pub name_beside : List (Place × List ℕ) → Place → Option (List ℕ)
-name_beside [] zone = None
-name_beside (pair ∷ pairs) zone = if is_eq (by_place pair.0 zone) then Some pair.1 else name_beside pairs zone
+abbrev pub name_for_zone : List (Place × List ℕ) → Place → Option (List ℕ)
+name_for_zone [] zone = None
+name_for_zone (pair ∷ pairs) zone = if is_eq (by_place pair.0 zone) then Some pair.1 else name_for_zone pairs zone

@@ -40,7 +40,7 @@ pub fn is_among(desk: &Desk, desks: &[Desk]) -> bool
 }
 
 impl Settings {
-    ghost use Rattle.desk_settings.specs.Looking.{name_beside, category_place};
+    ghost use Rattle.desk_settings.specs.Looking.{name_for_zone, category_place};
 
     /// Whether the office has the desk.
     pub fn has_desk(&self, desk: &Desk) -> bool
@@ -71,7 +71,7 @@ impl Settings {
     /// in accepted settings and those of training.
     pub fn zone_name(&self, zone: &Zone) -> Option<&Text>
         requires { IsStrictlySortedBy by_place (keys_of self.now.zones) }
-        ensures value { option_map (λ name. name.now) result ≡ name_beside self.now.zones zone.now }
+        ensures value { option_map (λ name. name.now) result ≡ name_for_zone self.now.zones zone.now }
         ensures stands { MatchOption result (¬ Contains (keys_of self.now.zones) zone.now)
             (λ name. Contains self.now.zones (zone.now, name.now)) }
     {

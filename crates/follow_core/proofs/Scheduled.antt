@@ -11,7 +11,7 @@ use Rattle.product_decoder.specs.Decoded.{decode}
 use Rattle.product_decoder.specs.ReaderModel.{Reading, product_of}
 use Rattle.product_decoder.specs.declared.types.Decoded.{Decoded}
 use Rattle.product_frame.specs.declared.frame.FrameFault.{FrameFault}
-use Rattle.follow_core.specs.Hearing.{place_of, found_in, products_in, having_heard}
+use Rattle.follow_core.specs.Hearing.{place_of, found_in, products_in, having_taken}
 use Rattle.follow_core.specs.Schedule.{World, Event, Appended, Asked, Delivered, Lost, answer_at, with_text, hearing, happens, run, begun, HasLostNothing}
 
 abbrev IsWhole : List ℕ → Type 0
@@ -95,7 +95,7 @@ more_parts texts taken rest text after place (Ok d) true is parts counted h =
 more_parts texts taken rest text after place (Err e) true is parts counted h = (rest, parts ∙ ap (λ (xs : List (List ℕ)). xs ++ rest) (sym (append-nil taken)))
 more_parts texts taken rest text after place d false is parts counted h = (rest, parts ∙ ap (λ (xs : List (List ℕ)). xs ++ rest) (sym (append-nil taken)))
 
-heard_onward : (f : Reading) (after : ℕ) (text : List ℕ) → place_of f ≤ place_of (having_heard f after text)
+heard_onward : (f : Reading) (after : ℕ) (text : List ℕ) → place_of f ≤ place_of (having_taken f after text)
 heard_onward f after text = more_onward f.office f.class f.products (after == place_of f) (decode text)
 
 hearing_onward : (w : World) (after : ℕ) (answer : Option (List ℕ)) → place_of w.follower ≤ place_of (hearing w after answer).follower
@@ -129,10 +129,10 @@ module _ (office : List ℕ) (class : Class) where
   hearing_keeps w after (Some text) h k =
       let b = after == place_of w.follower in
       let left = more_parts w.texts w.taken k.rest text after (place_of w.follower) (decode text) b refl k.parts k.counted (answer_is w after text h) in
-      let same : having_heard w.follower after text ≡ record { office = w.follower.office; class = w.follower.class; products = more office class w.follower.products b (decode text) } =
+      let same : having_taken w.follower after text ≡ record { office = w.follower.office; class = w.follower.class; products = more office class w.follower.products b (decode text) } =
       ap (λ (o : List ℕ). record { office = w.follower.office; class = w.follower.class; products = more o w.follower.class w.follower.products b (decode text) }) k.office_is
       ∙ ap (λ (c : Class). record { office = w.follower.office; class = w.follower.class; products = more office c w.follower.products b (decode text) }) k.class_is in
-      let products : (having_heard w.follower after text).products ≡ more office class w.follower.products b (decode text) = ap (λ (r : Reading). r.products) same in
+      let products : (having_taken w.follower after text).products ≡ more office class w.follower.products b (decode text) = ap (λ (r : Reading). r.products) same in
       record {
         office_is = k.office_is;
         class_is = k.class_is;
@@ -141,7 +141,7 @@ module _ (office : List ℕ) (class : Class) where
         counted = more_counted office class w.follower.products w.taken text b (decode text) k.counted ∙ sym (ap length products);
         whole = more_whole w.taken text b (decode text) refl k.whole;
         products = products ∙ more_products office class w.follower.products w.taken text b (decode text) refl k.products;
-        asked = all_onward (place_of w.follower) (place_of (having_heard w.follower after text)) w.asked (heard_onward w.follower after text) k.asked;
+        asked = all_onward (place_of w.follower) (place_of (having_taken w.follower after text)) w.asked (heard_onward w.follower after text) k.asked;
       }
 
   happens_keeps : (w : World) (e : Event) → Keeps office class w → Keeps office class (happens w e)
@@ -198,15 +198,15 @@ run_append (d ∷ es) e w = run_append es e (happens w d)
 pub delivered : (f : Reading) (events : List Event) (after : ℕ) (text : List ℕ)
     → (run events (begun f.office f.class)).follower ≡ f
     → answer_at (run events (begun f.office f.class)) after ≡ Some text
-    → (run (events ++ Delivered after ∷ []) (begun f.office f.class)).follower ≡ having_heard f after text
+    → (run (events ++ Delivered after ∷ []) (begun f.office f.class)).follower ≡ having_taken f after text
 delivered f events after text reached answer =
     let w = run events (begun f.office f.class) in
     ap (λ (v : World). v.follower) (run_append events (Delivered after) (begun f.office f.class))
     ∙ (ap (λ (a : Option (List ℕ)). (hearing w after a).follower) answer
-    ∙ ap (λ (r : Reading). having_heard r after text) reached)
+    ∙ ap (λ (r : Reading). having_taken r after text) reached)
 
 -- the delivery to a follower that a schedule led to lengthens the schedule, and nothing is lost
-pub goes_on : (f g : Reading) (after : ℕ) (text : List ℕ) → g ≡ having_heard f after text → (events : List Event)
+pub goes_on : (f g : Reading) (after : ℕ) (text : List ℕ) → g ≡ having_taken f after text → (events : List Event)
     → (run events (begun f.office f.class)).follower ≡ f
     → answer_at (run events (begun f.office f.class)) after ≡ Some text
     → ((run (events ++ Delivered after ∷ []) (begun f.office f.class)).follower ≡ g)

@@ -7,8 +7,8 @@ use Rattle.product_decoder.specs.Decoded.{decoded_of}
 use Rattle.product_decoder.specs.ReaderModel.{product_of}
 use Rattle.product_frame.specs.declared.frame.Frame.{Frame}
 
-abbrev pub product_heard : List ℕ → Class → Snapshot Frame → Product
-product_heard office class heard = product_of office class (decoded_of heard.value)
+abbrev pub product_taken : List ℕ → Class → Snapshot Frame → Product
+product_taken office class heard = product_of office class (decoded_of heard.value)
 
-abbrev pub products_heard : List ℕ → Class → List (Snapshot Frame) → List Product
-products_heard office class heard = map (product_heard office class) heard
+abbrev pub products_taken : List ℕ → Class → List (Snapshot Frame) → List Product
+products_taken office class heard = map (product_taken office class) heard

@@ -33,8 +33,8 @@ abbrev pub answer_to : ℕ → ℕ → List ℕ → Result Heard FrameFault
 answer_to place after text = if after == place then (decode text >>= λ d. Ok New) else Ok Old
 
 -- what the follower is then
-abbrev pub having_heard : Reading → ℕ → List ℕ → Reading
-having_heard f after text = record {
+abbrev pub having_taken : Reading → ℕ → List ℕ → Reading
+having_taken f after text = record {
   office = f.office;
   class = f.class;
   products = if after == place_of f then f.products ++ found_in f.office f.class (decode text) else f.products;

@@ -6,7 +6,7 @@ use Rattle.event_life.specs.Products.{rows_of}
 use Rattle.event_life.specs.Shown.{shown_at}
 use Rattle.product_decoder.specs.Decoded.{decode}
 use Rattle.product_decoder.specs.ReaderModel.{Reading}
-use Rattle.follow_core.specs.Hearing.{place_of, is_taken, having_heard, products_in}
+use Rattle.follow_core.specs.Hearing.{place_of, is_taken, having_taken, products_in}
 
 -- the office's texts so far, the places after which the follower asked, the texts that it took, and the follower
 pub record World : Type 0 where
@@ -37,7 +37,7 @@ hearing w after (Some text) = record {
   texts = w.texts;
   asked = w.asked;
   taken = w.taken ++ with_text (is_taken (place_of w.follower) after text) text;
-  follower = having_heard w.follower after text;
+  follower = having_taken w.follower after text;
 }
 
 abbrev pub happens : World → Event → World

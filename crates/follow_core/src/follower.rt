@@ -7,7 +7,7 @@ ghost use Rattle.event_life.specs.Shown.{shown_at};
 ghost use Rattle.product_decoder.specs.Decoded.{decoded_of};
 ghost use Rattle.product_decoder.specs.ReaderModel.{product_of};
 ghost use Rattle.row_index.specs.Verdicts.{expand, AreApart, AreFound};
-ghost use Rattle.follow_core.specs.Hearing.{place_of, answer_to, having_heard};
+ghost use Rattle.follow_core.specs.Hearing.{place_of, answer_to, having_taken};
 ghost use Rattle.follow_core.specs.Schedule.{Event, Delivered, run, begun, answer_at, HasLostNothing};
 
 use hazard_types::{Class, List, Minute, Oom, Or, Row};
@@ -49,18 +49,18 @@ impl Model for Follower {
     ghost use Rattle.std.specs.Prelude.{◌≡◌, length};
     ghost use Rattle.product_decoder.specs.ReaderModel.{Reading};
     ghost use Rattle.product_decoder.specs.Takings.{AreLeft};
-    ghost use Rattle.follow_core.specs.Frames.{products_heard};
+    ghost use Rattle.follow_core.specs.Frames.{products_taken};
 
     ghost Value = { Reading };
 
     ghost view = { λ f. record {
       office = f.office;
       class = f.class;
-      products = products_heard f.office f.class f.heard.items;
+      products = products_taken f.office f.class f.heard.items;
     } };
 
-    ghost invariant = { λ f. (f.place ≡ length (products_heard f.office f.class f.heard.items))
-        × AreLeft f.rows (products_heard f.office f.class f.heard.items) };
+    ghost invariant = { λ f. (f.place ≡ length (products_taken f.office f.class f.heard.items))
+        × AreLeft f.rows (products_taken f.office f.class f.heard.items) };
 }
 
 impl Follower {
@@ -138,7 +138,7 @@ impl Follower {
         requires few { place_of self.old < 8192 }
         ensures answer { Gives result (answer_to (place_of self.old) after text.now) }
         ensures old { after ≢ place_of self.old → result ≡ Ok Heard.Old }
-        ensures ok { OnOk result (self.new ≡ having_heard self.old after text.now) }
+        ensures ok { OnOk result (self.new ≡ having_taken self.old after text.now) }
         ensures err { OnErr result (self.new ≡ self.old) }
         ensures onward { place_of self.old ≤ place_of self.new }
         // If a schedule led to this follower and the text was the answer, its delivery leads on,

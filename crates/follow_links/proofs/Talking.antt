@@ -3,7 +3,7 @@ use Rattle.std.proofs.Common.{◌≡◌, ◌≢◌, ◌∙◌, ◌+◌, ◌≤�
 use Rattle.std.specs.Prelude.{IsErrOf}
 use Rattle.std.proofs.lemmas.List.{map-append}
 use Rattle.product_decoder.specs.ReaderModel.{Reading}
-use Rattle.follow_core.specs.Hearing.{place_of, having_heard}
+use Rattle.follow_core.specs.Hearing.{place_of, having_taken}
 use Rattle.follow_links.specs.Answers.{Answer}
 use Rattle.follow_links.specs.Talks.{IsText, Onward, IsClosed, IsTalk, ask, bodies, after_all}
 use Rattle.follow_links.specs.declared.talk.LinkEnd.{LinkEnd}
@@ -64,9 +64,9 @@ pub place_after : (place : ℕ) (read written : List ℕ) (answers : List Answer
     → IsTalk place read written answers end → place_of f ≡ place → place_of (after_all f (bodies answers)) ≡ place + length answers
 place_after place read written [] end f h is = omega (arith, is)
 place_after place read written (a ∷ answers) end f h is =
-    let next : place_of (having_heard f (place_of f) a.body) ≡ place + 1 = heard_place f a.body h.3.decodes ∙ ap (λ (n : ℕ). n + 1) is in
-    let rest = onward_place a.closes h.1 h.2 answers (place + 1) end (having_heard f (place_of f) a.body) h.6
-    (λ t. place_after (place + 1) h.1 h.2 answers end (having_heard f (place_of f) a.body) t next) next in
+    let next : place_of (having_taken f (place_of f) a.body) ≡ place + 1 = heard_place f a.body h.3.decodes ∙ ap (λ (n : ℕ). n + 1) is in
+    let rest = onward_place a.closes h.1 h.2 answers (place + 1) end (having_taken f (place_of f) a.body) h.6
+    (λ t. place_after (place + 1) h.1 h.2 answers end (having_taken f (place_of f) a.body) t next) next in
     omega (arith, rest)
 
 -- Texts were taken so far, and the link is open.
@@ -96,9 +96,9 @@ going_none link f rounds = record {
   same = refl;
 }
 
-push_body : (old mid : Reading) (answers : List Answer) (a : Answer) → mid ≡ after_all old (bodies answers) → having_heard mid (place_of mid) a.body ≡ after_all old (bodies (answers ++ a ∷ []))
+push_body : (old mid : Reading) (answers : List Answer) (a : Answer) → mid ≡ after_all old (bodies answers) → having_taken mid (place_of mid) a.body ≡ after_all old (bodies (answers ++ a ∷ []))
 push_body old mid answers a is =
-    ap (λ (f : Reading). having_heard f (place_of f) a.body) is
+    ap (λ (f : Reading). having_taken f (place_of f) a.body) is
     ∙ (sym (after_more old (bodies answers) (a.body ∷ []))
     ∙ ap (after_all old) (sym (map-append (λ (b : Answer). b.body) answers (a ∷ []))))
 

@@ -11,7 +11,7 @@ use Rattle.follow_core.specs.Hearing.{place_of}
 use Rattle.follow_links.specs.Answers.{Answer}
 use Rattle.follow_links.specs.Rounding.{HasFailed, Talks}
 use Rattle.follow_links.specs.Talks.{IsTalk, bodies, after_all, asks_in, fails_in}
-use Rattle.follow_links.specs.Rounds.{Turn, NotDialed, Talked, rounds_in, fails, texts_in, IsTalkTold, AreTold, IsGivenUp, IsLast, EndsAs, RoseBy, Courses}
+use Rattle.follow_links.specs.Rounds.{Turn, NotDialed, Talked, rounds_in, fails, texts_in, IsTalkWritten, AreTold, IsGivenUp, IsLast, EndsAs, RoseBy, Courses}
 use Rattle.follow_links.specs.declared.talk.LinkEnd.{LinkEnd}
 use Rattle.follow_links.specs.declared.talk.LinkEnd.TheVariants as link
 use Rattle.follow_links.specs.declared.rounds.Stop.{Stop}
@@ -71,7 +71,7 @@ link_rose link.OutOfMemory mid new fresh left n rose is = omega (arith, is)
 -- what was read and written on a link that was new
 pub told_link : (place : ℕ) (fresh left : LinkState) (old new : Reading) (rounds rounds' : ℕ) (end : LinkEnd)
     → place ≡ place_of old → IsNew fresh → (t : Talks fresh left old new rounds rounds' end)
-    → IsTalkTold place left t.answers end
+    → IsTalkWritten place left t.answers end
 told_link place fresh left old new rounds rounds' end is n t = record {
   read = t.read;
   written = t.written;
@@ -114,7 +114,7 @@ module _ (first middle : DialerState) (old mid : Reading) (rounds mid_rounds : �
 
   -- the link of a turn came back
   module _ (l : LinkState) (answers : List Answer) (end : LinkEnd) (new : Reading) (last : DialerState) (end_rounds : ℕ)
-      (told : IsTalkTold (place_of mid) l answers end)
+      (told : IsTalkWritten (place_of mid) l answers end)
       (kept : last.links ≡ with_one middle.links l)
       (rose : RoseBy (fails_in end) middle.faults last.faults)
       (heard : new ≡ after_all mid (bodies answers))
@@ -206,7 +206,7 @@ module _ (first before dialed last : DialerState) (old mid new : Reading) (round
     (n : IsNew fresh)
     (k : Talks fresh left mid new mid_rounds end_rounds end)
     (put : last ≡ with_count dialed left) where
-  told_on : IsTalkTold (place_of mid) left k.answers end
+  told_on : IsTalkWritten (place_of mid) left k.answers end
   told_on = told_link (place_of mid) fresh left mid new mid_rounds end_rounds end refl n k
 
   rose_on : RoseBy (fails_in end) before.faults last.faults

@@ -4,7 +4,7 @@ use Rattle.desk_links.specs.Links.{LinkState}
 use Rattle.desk_traits.specs.Faults.{Rose}
 use Rattle.byte_streams.specs.Flows.{Takes, Adds}
 use Rattle.product_decoder.specs.ReaderModel.{Reading}
-use Rattle.follow_core.specs.Hearing.{place_of, having_heard}
+use Rattle.follow_core.specs.Hearing.{place_of, having_taken}
 use Rattle.follow_links.specs.Answers.{Answer}
 use Rattle.follow_links.specs.Talks.{IsText, IsBad, IsEnd, Leaves, ask, IsTalk, bodies, after_all, asks_in}
 use Rattle.follow_links.specs.declared.reading.Miss.{Miss}
@@ -19,7 +19,7 @@ end_of miss.OutOfMemory = OutOfMemory
 
 -- what becomes of a whole answer
 abbrev pub IsTaken : Reading → Reading → List ℕ → Result Bool LinkEnd → Type 0
-IsTaken old new bytes (Ok closes) = (body : List ℕ) × IsText (place_of old) bytes (record { status = 200; body = body; closes = closes }) × (new ≡ having_heard old (place_of old) body)
+IsTaken old new bytes (Ok closes) = (body : List ℕ) × IsText (place_of old) bytes (record { status = 200; body = body; closes = closes }) × (new ≡ having_taken old (place_of old) body)
 IsTaken old new bytes (Err Ended) = IsEnd bytes × (new ≡ old)
 IsTaken old new bytes (Err Bad) = IsBad (place_of old) bytes × (new ≡ old)
 IsTaken old new bytes (Err OutOfMemory) = new ≡ old
@@ -27,7 +27,7 @@ IsTaken old new bytes (Err _) = ⊥
 
 -- one ask, by its result
 abbrev pub AskGives : Reading → Reading → List ℕ → List ℕ → Result Bool LinkEnd → Type 0
-AskGives old new read written (Ok closes) = (written ≡ ask (place_of old)) × ((body : List ℕ) × IsText (place_of old) read (record { status = 200; body = body; closes = closes }) × (new ≡ having_heard old (place_of old) body))
+AskGives old new read written (Ok closes) = (written ≡ ask (place_of old)) × ((body : List ℕ) × IsText (place_of old) read (record { status = 200; body = body; closes = closes }) × (new ≡ having_taken old (place_of old) body))
 AskGives old new read written (Err end) = Leaves (place_of old) read written end × (new ≡ old) × (end ≢ Spent)
 
 pub record IsAsk (first last : LinkState) (old new : Reading) (result : Result Bool LinkEnd) : Type 0 where

@@ -49,7 +49,7 @@ IsWritten None written = Unit {0}
 IsWritten (Some told) written = told ≡ written
 
 -- what was read of a link and written on it is a talk from this place on
-pub record IsTalkTold (place : ℕ) (link : LinkState) (answers : List Answer) (end : LinkEnd) : Type 0 where
+pub record IsTalkWritten (place : ℕ) (link : LinkState) (answers : List Answer) (end : LinkEnd) : Type 0 where
   pub read : List ℕ
   pub written : List ℕ
   pub reads : Takes link.came link.input.left read
@@ -63,7 +63,7 @@ AreTold place [] (l ∷ links) = ⊥
 AreTold place (NotDialed ∷ turns) links = AreTold place turns links
 AreTold place (Talked answers end ∷ turns) [] = ⊥
 AreTold place (Talked answers end ∷ turns) (l ∷ links) =
-    IsTalkTold place l answers end × AreTold (place + length answers) turns links
+    IsTalkWritten place l answers end × AreTold (place + length answers) turns links
 
 -- a turn behind which the next round dials: the dial failed, or the link closed or failed
 abbrev pub IsGivenUp : Turn → Type 0

@@ -3,7 +3,7 @@ use Rattle.std.specs.Prelude.{◌≡◌, ◌≢◌, ◌≤◌, ◌<◌, ◌⊎�
 use Rattle.program_ends.specs.Ends.{Begins}
 use Rattle.product_decoder.specs.Decoded.{decode}
 use Rattle.product_decoder.specs.ReaderModel.{Reading}
-use Rattle.follow_core.specs.Hearing.{place_of, having_heard}
+use Rattle.follow_core.specs.Hearing.{place_of, having_taken}
 use Rattle.follow_links.specs.Answers.{Answer, IsAnswer, HasBadHead, IsFront, no_product}
 use Rattle.follow_links.specs.declared.talk.LinkEnd.{LinkEnd}
 use Rattle.follow_links.specs.declared.talk.LinkEnd.TheVariants.{Spent, Closed, Failed, Ended, Bad, OutOfMemory}
@@ -63,7 +63,7 @@ bodies answers = map (λ (a : Answer). a.body) answers
 -- the follower after each text was heard as the answer to its question
 abbrev pub after_all : Reading → List (List ℕ) → Reading
 after_all f [] = f
-after_all f (text ∷ texts) = after_all (having_heard f (place_of f) text) texts
+after_all f (text ∷ texts) = after_all (having_taken f (place_of f) text) texts
 
 -- the asks behind the last text
 abbrev pub asks_in : LinkEnd → ℕ

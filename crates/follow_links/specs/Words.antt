@@ -1,7 +1,7 @@
 -- The words of a command line.
 use Rattle.std.specs.Prelude.{ℕ, List, [], ◌∷◌, if◌then◌else◌, Option, Some, None}
 use Rattle.hazard_types.specs.Calendar.{stamp_at}
-use Rattle.hazard_types.specs.Codes.{value_beside}
+use Rattle.hazard_types.specs.Codes.{value_for_code}
 use Rattle.hazard_types.specs.Tables.{class_rows}
 use Rattle.hazard_types.specs.declared.codes.Class.{Class}
 use Rattle.hazard_types.specs.Characters.{is_office}
@@ -18,5 +18,5 @@ asked_by office (Some c) (Some m) (Some p) (Some r) = Some (record { office = of
 
 -- `OFFICE CLASS STAMP PORT ROUNDS`, which are all the words: a port from 1 to 65,535, and 1 to 100,000 rounds
 unfoldable pub asked_of : List (List ℕ) → Option Asked
-asked_of (a ∷ b ∷ c ∷ d ∷ e ∷ []) = if is_office a then asked_by a (value_beside class_rows b) (stamp_at c) (count_in 65535 d) (count_in 100000 e) else None
+asked_of (a ∷ b ∷ c ∷ d ∷ e ∷ []) = if is_office a then asked_by a (value_for_code class_rows b) (stamp_at c) (count_in 65535 d) (count_in 100000 e) else None
 asked_of _ = None

@@ -60,7 +60,7 @@ impl Stop {
 }
 
 /// Writes how a run stopped, and returns the exit status.
-fn tell_stop<K: Sink>(
+fn write_stop<K: Sink>(
     alloc: Global,
     follower: &Follower,
     minute: Minute,
@@ -87,7 +87,7 @@ fn follow<D: Dialer, K: Sink>(alloc: Global, asked: &Asked, dialer: &mut D, outp
 {
     let mut follower = Follower::new(alloc, asked.office, asked.class);
     let stop = follow_rounds(alloc, dialer, &mut follower, asked.rounds);
-    tell_stop(alloc, &follower, asked.minute, stop, output)
+    write_stop(alloc, &follower, asked.minute, stop, output)
 }
 
 /// Runs the follower over a dialer, as the arguments `OFFICE CLASS STAMP PORT ROUNDS` ask, and

@@ -49,7 +49,7 @@ const NO_PRODUCT: &[u8] = b"{\"no\":\"E14\",\"rule\":\"NoProduct\"}";
 const MOST: u32 = 8192;
 
 /// Whether a body says that there is no further product.
-fn says_end(body: &[u8]) -> bool
+fn is_end_answer(body: &[u8]) -> bool
     ensures { IsTrue result ↔ (body.now ≡ no_product) }
 {
     body == NO_PRODUCT
@@ -67,7 +67,7 @@ fn take_answer(
 {
     let body = &bytes[shape.from..];
     if shape.status == 404 {
-        if says_end(body) {
+        if is_end_answer(body) {
             return Err(LinkEnd::Ended);
         }
         return Err(LinkEnd::Bad);

@@ -5,7 +5,7 @@ use Rattle.std.specs.List.{All, AllByRecursion, list_all}
 use Rattle.std.proofs.lemmas.Bool.{and_parts, cases_Bool, eqb-true}
 use Rattle.std.proofs.lemmas.List.Elements.{All-from_recursion, recursion_from_All}
 use Rattle.hazard_types.specs.Characters.{is_office}
-use Rattle.hazard_types.specs.Codes.{value_beside}
+use Rattle.hazard_types.specs.Codes.{value_for_code}
 use Rattle.hazard_types.specs.Hazards.{DeskHazard, value_of, desk_hazards, fact_rows, facts_of}
 use Rattle.hazard_types.specs.Places.{Place, IsPlace, are_letters}
 use Rattle.hazard_types.specs.Same.{same_hazard}
@@ -31,7 +31,7 @@ use Rattle.hvtec_string.proofs.Laying as flood_text
 use Rattle.vtec_string.proofs.Laying as line_text
 use Rattle.ugc_codes.proofs.Written.{written_back}
 use Rattle.product_frame.specs.LineRules.{HasColumns, HasFloodColumns, IsSegmentWritten, ReadsBack}
-use Rattle.product_template.specs.Conditions.{CanBeSaid, CanBeSegment, CanBeText}
+use Rattle.product_template.specs.Conditions.{CanBeWritten, CanBeSegment, CanBeText}
 use Rattle.product_template.specs.Text.{pair_of, segment_of}
 use Rattle.product_template.proofs.Writable.{writable}
 use Rattle.request_json.specs.Formed.{AreFloodValues, IsEnd, IsMinute}
@@ -68,13 +68,13 @@ cause_step : (b : Bool) (x y : List ℕ) (rest : Option (List ℕ)) → are_two 
 cause_step true x y rest own more h = let same : x ≡ y = cc in subst (λ (z : List ℕ). are_two z ≡ true) same own
 cause_step false x y rest own more h = more h
 
-cause_in : (rows : List (Coded (List ℕ))) (text y : List ℕ) → list_all (λ (row : Coded (List ℕ)). are_two row.value) rows ≡ true → value_beside rows text ≡ Some y → are_two y ≡ true
+cause_in : (rows : List (Coded (List ℕ))) (text y : List ℕ) → list_all (λ (row : Coded (List ℕ)). are_two row.value) rows ≡ true → value_for_code rows text ≡ Some y → are_two y ≡ true
 cause_in [] text y all h = cc
 cause_in (row ∷ rows) text y all h =
     let p = and_parts (are_two row.value) _ all in
-    cause_step _ row.value y (value_beside rows text) p.0 (cause_in rows text y p.1) h
+    cause_step _ row.value y (value_for_code rows text) p.0 (cause_in rows text y p.1) h
 
-cause_two : (text : List ℕ) → value_beside cause_rows text ≡ Some text → AreTwo text
+cause_two : (text : List ℕ) → value_for_code cause_rows text ≡ Some text → AreTwo text
 unfolding cause_rows
 cause_two text h = two_from text (cause_in cause_rows text text refl h)
 
@@ -107,12 +107,12 @@ record IsSaidInRange (l : SegLine) : Type 0 where
   end : IsEnd l.end
   flood : HasFloodColumns l.flood
 
-pair_columns : (class : Class) (office : List ℕ) (l : SegLine) → IsTrue (is_office office) → CanBeSaid l → IsSaidInRange l → HasColumns (pair_of class office l)
+pair_columns : (class : Class) (office : List ℕ) (l : SegLine) → IsTrue (is_office office) → CanBeWritten l → IsSaidInRange l → HasColumns (pair_of class office l)
 pair_columns class office l is can own =
     let two = hazard_two l.event.hazard can.hazard in
     (line_text.columns_of (pair_of class office l).vtec two.1 is two.0 can.number (time_is l.begin own.begin) (time_is (printed_end l.end) (end_is l.end own.end)), own.flood)
 
-pairs_columns : (class : Class) (office : List ℕ) (ls : List SegLine) → IsTrue (is_office office) → AllByRecursion CanBeSaid ls → AllByRecursion IsSaidInRange ls
+pairs_columns : (class : Class) (office : List ℕ) (ls : List SegLine) → IsTrue (is_office office) → AllByRecursion CanBeWritten ls → AllByRecursion IsSaidInRange ls
     → AllByRecursion HasColumns (map (pair_of class office) ls)
 pairs_columns class office [] is can own = tt
 pairs_columns class office (l ∷ ls) is can own = (pair_columns class office l is can.0 own.0, pairs_columns class office ls is can.1 own.1)
@@ -121,7 +121,7 @@ segment_back : (class : Class) (office : List ℕ) (t : ℕ) (s : Segment) → I
     → AllByRecursion IsPlace s.zones → AllByRecursion IsSaidInRange s.lines → ReadsBack (segment_of class office t s)
 segment_back class office t s is can w places lines = (
   written_back s.zones (segment_of class office t s).expiry w.some (All-from_recursion IsPlace s.zones places) w.sorted w.expiry,
-  All-from_recursion HasColumns (map (pair_of class office) s.lines) (pairs_columns class office s.lines is (recursion_from_All CanBeSaid s.lines can.lines) lines),
+  All-from_recursion HasColumns (map (pair_of class office) s.lines) (pairs_columns class office s.lines is (recursion_from_All CanBeWritten s.lines can.lines) lines),
 )
 
 segments_back : (class : Class) (office : List ℕ) (t : ℕ) (segments : List Segment) → IsTrue (is_office office) → AllByRecursion CanBeSegment segments → AllByRecursion IsSegmentWritten (map (segment_of class office t) segments)

@@ -26,7 +26,7 @@ use Rattle.event_numbers.specs.declared.Count.{Count}
 use Rattle.product_frame.specs.LineRules.{HasFloodColumns}
 use Rattle.request_json.specs.Formed.{IsBegin, IsEnd, IsMinute}
 use Rattle.action_planner.specs.Corrections.{corrected_lines}
-use Rattle.action_planner.specs.Lines.{added_lines, finish_lines, goes_on_beside, joined_row, line_on, lines_from, lines_in, minute_of, planned_lines, put_line_on, restate_lines}
+use Rattle.action_planner.specs.Lines.{added_lines, finish_lines, is_continued, joined_row, line_on, lines_from, lines_in, minute_of, planned_lines, put_line_on, restate_lines}
 use Rattle.action_planner.specs.Placed.{Placed, placed_from, zones_of}
 use Rattle.action_planner.proofs.AfterLemmas.{all_after}
 use Rattle.action_planner.proofs.CorrectionLemmas.{each_corrected}
@@ -136,9 +136,9 @@ module _ (rows : List Row) (t : ℕ) (minute : IsMinute t) (own : AllByRecursion
     planned_in c intents = all_append IsLineInRange (lines_from rows t all all) (added_lines c rows t all)
         (each_intent rows t all IsLineInRange (λ (p : Placed). IsInRange p.intent)
         (λ p h. each_zone rows t all IsLineInRange IsPlace p.event p.intent (λ z place. in_zone p.event p.intent z h place) (zones_of p.intent) (zones_in p.intent h)) all intents)
-        (all_map IsLineInRange (line_on Con t) (filter (goes_on_beside c t all) rows)
-        (all_weaker (λ r. IsRowInRange r × (goes_on_beside c t all r ≡ true)) (λ r. IsLineInRange (line_on Con t r)) (λ r h. on_row Con r h.0) (filter (goes_on_beside c t all) rows)
-        (all_filter IsRowInRange (goes_on_beside c t all) rows own)))
+        (all_map IsLineInRange (line_on Con t) (filter (is_continued c t all) rows)
+        (all_weaker (λ r. IsRowInRange r × (is_continued c t all r ≡ true)) (λ r. IsLineInRange (line_on Con t r)) (λ r h. on_row Con r h.0) (filter (is_continued c t all) rows)
+        (all_filter IsRowInRange (is_continued c t all) rows own)))
 
   pub corrected_in : (lines : List Line) → AllByRecursion IsLineInRange (corrected_lines rows t lines)
   corrected_in lines = each_corrected rows t lines IsLineInRange (λ before line h c. subst IsLineInRange (sym c.is) (on_row Cor c.row (found_in before.event before.zone c.row c.at)))

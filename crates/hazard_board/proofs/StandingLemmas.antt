@@ -12,7 +12,7 @@ use Rattle.hazard_types.specs.declared.period.End.{End}
 use Rattle.hazard_types.proofs.Equality.{event_one}
 use Rattle.hazard_types.proofs.OrderLaws.{by_event_total, by_event_ties}
 use Rattle.hazard_board.specs.Seats.{placed_at, put_at, left_at}
-use Rattle.hazard_board.specs.Standing.{by_standing, end_in, against, put_standing, without, IsPlaceOf, IsGapFor, AreStanding}
+use Rattle.hazard_board.specs.Standing.{by_standing, end_in, against, insert_standing, without, IsPlaceOf, IsGapFor, AreStanding}
 use Rattle.hazard_board.specs.declared.standing.Standing.{Standing}
 use Rattle.hazard_board.proofs.Runs.{Rises, front, rises, found_there, not_there, inserted, replaced, removed, stays, keeps_put, keeps_left, default_free}
 use Rattle.hazard_board.proofs.Places.{event_tied}
@@ -89,10 +89,10 @@ not_equal : (o : Ordering) → o ≡ Less → o ≢ Equal
 not_equal o h g = cc
 
 put_step : (o : Ordering) (s x : Standing) (standing : List Standing) (d : Event) → against s.event x ≡ o →
-    end_in (put_standing s standing) d ≡ cond (same_event s.event d) (Some s.latest) (end_in standing d) →
-    end_in (placed_at o s x standing (put_standing s standing)) d ≡ cond (same_event s.event d) (Some s.latest) (end_in (x ∷ standing) d)
+    end_in (insert_standing s standing) d ≡ cond (same_event s.event d) (Some s.latest) (end_in standing d) →
+    end_in (placed_at o s x standing (insert_standing s standing)) d ≡ cond (same_event s.event d) (Some s.latest) (end_in (x ∷ standing) d)
 put_step Less s x standing d e more =
-    end_cons x (put_standing s standing) d
+    end_cons x (insert_standing s standing) d
     ∙ ap (λ (o : Option End). cond (same_event x.event d) (Some x.latest) o) more
     ∙ either (same_event x.event d) (same_event s.event d) (Some x.latest) (Some s.latest) (end_in standing d) (apart x.event s.event d (not_equal (by_event x.event s.event) e))
     ∙ ap (λ (o : Option End). cond (same_event s.event d) (Some s.latest) o) (sym (end_cons x standing d))
@@ -102,7 +102,7 @@ put_step Equal s x standing d e more =
     ∙ ap (λ (o : Option End). cond (same_event s.event d) (Some s.latest) o) (sym (end_cons x standing d))
 put_step Greater s x standing d e more = end_cons s (x ∷ standing) d
 
-pub end_put : (s : Standing) (standing : List Standing) (d : Event) → end_in (put_standing s standing) d ≡ cond (same_event s.event d) (Some s.latest) (end_in standing d)
+pub end_put : (s : Standing) (standing : List Standing) (d : Event) → end_in (insert_standing s standing) d ≡ cond (same_event s.event d) (Some s.latest) (end_in standing d)
 end_put s [] d = end_cons s [] d
 end_put s (x ∷ standing) d = put_step (against s.event x) s x standing d refl (end_put s standing d)
 
@@ -151,14 +151,14 @@ end_left e (x ∷ standing) d up = left_step (by_event x.event e) e x standing d
 
 -- order
 
-put_order_step : (o : Ordering) (s x : Standing) (standing : List Standing) → by_event x.event s.event ≡ o → IsStrictlySortedBy by_standing (x ∷ standing) → IsStrictlySortedBy by_standing (put_standing s standing) →
-    IsStrictlySortedBy by_standing (placed_at o s x standing (put_standing s standing))
+put_order_step : (o : Ordering) (s x : Standing) (standing : List Standing) → by_event x.event s.event ≡ o → IsStrictlySortedBy by_standing (x ∷ standing) → IsStrictlySortedBy by_standing (insert_standing s standing) →
+    IsStrictlySortedBy by_standing (placed_at o s x standing (insert_standing s standing))
 unfolding IsStrictlySortedBy
 put_order_step Less s x standing h up more = (keeps_put (against s.event) (λ y. by_standing x y ≡ Less) s standing h up.0, more)
 put_order_step Equal s x standing h up more = (tied_after s.event x standing h up.0, up.1)
 put_order_step Greater s x standing h up more = let less = turned x.event s.event h in ((less, all_after s.event x standing less up.0), up)
 
-pub put_in_order : (s : Standing) (standing : List Standing) → IsStrictlySortedBy by_standing standing → IsStrictlySortedBy by_standing (put_standing s standing)
+pub put_in_order : (s : Standing) (standing : List Standing) → IsStrictlySortedBy by_standing standing → IsStrictlySortedBy by_standing (insert_standing s standing)
 unfolding IsStrictlySortedBy
 put_in_order s [] up = (tt, tt)
 put_in_order s (x ∷ standing) up = put_order_step (by_event x.event s.event) s x standing refl up (put_in_order s standing up.1)

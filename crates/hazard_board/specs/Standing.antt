@@ -110,8 +110,8 @@ abbrev pub last_open : ℕ → List Standing → Option Event
 last_open t standing = fold (λ (best : Option Event) (s : Standing). if is_not_long_past s.latest t then later_event best s.event else best) None standing
 
 -- the list with a standing event in its place, and without one
-abbrev pub put_standing : Standing → List Standing → List Standing
-put_standing s standing = put_at (against s.event) s standing
+abbrev pub insert_standing : Standing → List Standing → List Standing
+insert_standing s standing = put_at (against s.event) s standing
 
 abbrev pub without : Event → List Standing → List Standing
 without e standing = left_out (against e) standing
@@ -120,7 +120,7 @@ without e standing = left_out (against e) standing
 pub record IsPlaceOf (e : Event) (standing : List Standing) (i : ℕ) : Type 0 where
   pub within : i < length standing
   pub found : is_some (end_in standing e) ≡ true
-  pub put : (s : Standing) → s.event ≡ e → slice_set standing i s ≡ put_standing s standing
+  pub put : (s : Standing) → s.event ≡ e → slice_set standing i s ≡ insert_standing s standing
   pub left : remove standing i ≡ without e standing
 
 -- the event does not stand, and belongs at the place
@@ -128,4 +128,4 @@ pub record IsGapFor (e : Event) (standing : List Standing) (i : ℕ) : Type 0 wh
   pub within : i ≤ length standing
   pub found : end_in standing e ≡ None
   pub left : without e standing ≡ standing
-  pub put : (s : Standing) → s.event ≡ e → insert standing i s ≡ put_standing s standing
+  pub put : (s : Standing) → s.event ≡ e → insert standing i s ≡ insert_standing s standing

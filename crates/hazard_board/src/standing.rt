@@ -8,7 +8,7 @@ ghost use Rattle.hazard_types.specs.Orders.{by_event};
 ghost use Rattle.hazard_types.specs.Same.{same_event};
 ghost use Rattle.hazard_types.specs.declared.hazard.Event.{Event as AnyEvent};
 ghost use Rattle.hazard_board.specs.Periods.{by_period, latest_in};
-ghost use Rattle.hazard_board.specs.Standing.{by_standing, end_in, put_standing, without, IsPlaceOf, IsGapFor, touches, touched, are_one, moves_end, newly};
+ghost use Rattle.hazard_board.specs.Standing.{by_standing, end_in, insert_standing, without, IsPlaceOf, IsGapFor, touches, touched, are_one, moves_end, newly};
 
 use crate::periods::{PeriodCount, latest_in};
 use event_life::is_routine;
@@ -54,11 +54,11 @@ fn place_of(standing: &[Standing], e: &Event) -> Result<usize, usize>
 }
 
 /// Puts an event with its end, in place of the one that is there if it is.
-fn put_standing(standing: &mut Vec<Standing>, s: &Standing)
+fn insert_standing(standing: &mut Vec<Standing>, s: &Standing)
     requires order { IsStrictlySortedBy by_standing standing.old.items }
     requires room { end_in standing.old.items s.now.event ≡ None
         → vec_len standing.old < vec_capacity standing.old }
-    ensures items { standing.new.items ≡ put_standing s.now standing.old.items }
+    ensures items { standing.new.items ≡ insert_standing s.now standing.old.items }
     ensures capacity { vec_capacity standing.old ≤ vec_capacity standing.new }
     ensures length { vec_len standing.new ≤ vec_len standing.old
         + (if is_none (end_in standing.old.items s.now.event) then 1 else 0) }
@@ -99,7 +99,7 @@ fn set_end(standing: &mut Vec<Standing>, e: &Event, latest: &Option<End>)
         ≤ vec_len standing.old + (if is_none (end_in standing.old.items e.now) then 1 else 0) }
 {
     match latest {
-        Some(latest) => put_standing(
+        Some(latest) => insert_standing(
             standing,
             &Standing {
                 event: *e,

@@ -5,7 +5,7 @@ use Rattle.std.proofs.lemmas.Bool.Decides.{nat_tests}
 use Rattle.hazard_types.specs.Calendar.{is_digit}
 use Rattle.hazard_types.specs.Digits.{three_digits, four_digits, wide}
 use Rattle.hazard_types.specs.Hazards.{hazard_code}
-use Rattle.hazard_types.specs.Codes.{value_beside}
+use Rattle.hazard_types.specs.Codes.{value_for_code}
 use Rattle.hazard_types.specs.Tables.{category_rows}
 use Rattle.hazard_types.specs.declared.codes.Category.{Category}
 use Rattle.hazard_types.specs.declared.codes.Category.TheVariants as category
@@ -111,7 +111,7 @@ event_back e letters two one most low high =
     rw (wide_four e.etn most, wide_four e.year late) (event_from e.hazard.phen e.hazard.sig e.etn e.year letters two one most low high)
 
 -- the letters of a category stand beside it in the table
-pub category_back : (c : Category) → value_beside category_rows (category_code c) ≡ Some c
+pub category_back : (c : Category) → value_for_code category_rows (category_code c) ≡ Some c
 unfolding category_rows
 category_back category.Wsw = refl
 category_back category.Npw = refl

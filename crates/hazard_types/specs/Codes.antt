@@ -24,16 +24,16 @@ HoldsOfIdentical {T} same = (a b : T) → same a b ≡ true → a ≡ b
 
 module _ {T : Type 0} where
   -- the value of the first row with this code
-  abbrev pub value_beside : List (Coded T) → List ℕ → Option T
-  value_beside [] code = None
-  value_beside (row ∷ rows) code =
-      if bytes_eq (without_padding row.code) code then Some row.value else value_beside rows code
+  abbrev pub value_for_code : List (Coded T) → List ℕ → Option T
+  value_for_code [] code = None
+  value_for_code (row ∷ rows) code =
+      if bytes_eq (without_padding row.code) code then Some row.value else value_for_code rows code
 
   -- the code of the first row with this value
-  abbrev pub code_beside : (T → T → Bool) → List (Coded T) → T → Option (List ℕ)
-  code_beside same [] value = None
-  code_beside same (row ∷ rows) value =
-      if same row.value value then Some row.code else code_beside same rows value
+  abbrev pub code_for_value : (T → T → Bool) → List (Coded T) → T → Option (List ℕ)
+  code_for_value same [] value = None
+  code_for_value same (row ∷ rows) value =
+      if same row.value value then Some row.code else code_for_value same rows value
 
   -- a row has the property
   abbrev pub SomeRow : (Coded T → Type 0) → List (Coded T) → Type 0

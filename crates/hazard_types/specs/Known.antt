@@ -9,7 +9,7 @@ abbrev pub hazard_in : {X : Type 0} → Known X → Hazard
 hazard_in row = record { phen = row.letters; sig = row.sig }
 
 -- the value of the first row with a hazard
-abbrev pub told_beside : {X : Type 0} → List (Known X) → Hazard → Option X
-told_beside [] h = None
-told_beside (row ∷ rows) h =
-    if same_hazard (hazard_in row) h then Some row.value else told_beside rows h
+abbrev pub known_for : {X : Type 0} → List (Known X) → Hazard → Option X
+known_for [] h = None
+known_for (row ∷ rows) h =
+    if same_hazard (hazard_in row) h then Some row.value else known_for rows h

@@ -3,7 +3,7 @@ ghost use Rattle.std.specs.Prelude.{◌≡◌, ◌≢◌, map, option_copied, If
 ghost use Rattle.hazard_types.specs.Codes.{IsTable};
 ghost use Rattle.hazard_types.specs.Tables.{row};
 ghost use Rattle.hazard_types.specs.Hazards.{DeskHazard, desk_hazards, name_rows, hazard_rows, hazard_code, facts_of, name_of};
-ghost use Rattle.hazard_types.specs.Known.{hazard_in, told_beside};
+ghost use Rattle.hazard_types.specs.Known.{hazard_in, known_for};
 
 use crate::codes::{Category, Coded, Family};
 use crate::facts::Facts;
@@ -171,7 +171,7 @@ fn all_names() -> &'static [Known<&'static str>; 28]
 
 /// Returns the value of the first row with the hazard, or `None` if no row has it.
 fn value_of<V: Copy>(rows: &[Known<V>], h: Hazard) -> Option<V>
-    ensures { result ≡ told_beside rows.now h }
+    ensures { result ≡ known_for rows.now h }
 {
     let letters = h.phen.letters();
     for row in rows {

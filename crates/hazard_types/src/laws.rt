@@ -6,7 +6,7 @@ ghost use Rattle.std.specs.Cmp.{IsTotalOrder};
 ghost use Rattle.std.specs.declared.cmp.Ordering.TheVariants.{Equal};
 ghost use Rattle.std.specs.Prelude.{IsTrue, length, ◌≤◌};
 ghost use Rattle.hazard_types.specs.Calendar.{stamp_of, stamp_at};
-ghost use Rattle.hazard_types.specs.Codes.{HoldsOfIdentical, value_beside};
+ghost use Rattle.hazard_types.specs.Codes.{HoldsOfIdentical, value_for_code};
 ghost use Rattle.hazard_types.specs.Tables.{category_rows};
 ghost use Rattle.hazard_types.specs.Hazards.{hazard_code};
 ghost use Rattle.hazard_types.specs.Names.{category_code, zone_text, zone_at, hazard_at, event_text, event_at};
@@ -74,7 +74,7 @@ pub fn names_read_back()
     ensures zones { (z : Place) → IsPlace z → zone_at (zone_text z) ≡ Some z }
     ensures hazards { (h : Hazard) → IsTrue (are_letters h.phen) → length h.phen ≡ 2 →
         hazard_at (hazard_code h) ≡ Some h }
-    ensures categories { (c : Category) → value_beside category_rows (category_code c) ≡ Some c }
+    ensures categories { (c : Category) → value_for_code category_rows (category_code c) ≡ Some c }
     ensures events { (e : Event) →
         IsTrue (are_letters e.hazard.phen) → length e.hazard.phen ≡ 2 →
         1 ≤ e.etn → e.etn ≤ 9999 → 2000 ≤ e.year → e.year ≤ 2099 →

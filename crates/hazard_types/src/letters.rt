@@ -3,7 +3,7 @@
 ghost use Rattle.std.specs.Prelude.{◌≡◌, ◌∷◌, []};
 ghost use Rattle.std.specs.Cmp.Lexicographic.{slice_cmp};
 ghost use Rattle.std.specs.Ordering.{nat_cmp};
-ghost use Rattle.hazard_types.specs.Codes.{value_beside};
+ghost use Rattle.hazard_types.specs.Codes.{value_for_code};
 ghost use Rattle.hazard_types.specs.Letters.{class_code, action_code, severity_code, status_code};
 ghost use Rattle.hazard_types.specs.Tables.{class_rows, action_rows, sig_rows, severity_rows, status_rows};
 
@@ -39,7 +39,7 @@ impl Class {
 
     /// Returns the class with this letter, or `None` if no class has it.
     pub fn from_code(text: &[u8]) -> Option<Self>
-        ensures { result ≡ value_beside class_rows text.now }
+        ensures { result ≡ value_for_code class_rows text.now }
     {
         find(&classes(), text)
     }
@@ -66,7 +66,7 @@ impl Action {
 
     /// Returns the action with these three letters, or `None` if no action has them.
     pub fn from_code(text: &[u8]) -> Option<Self>
-        ensures { result ≡ value_beside action_rows text.now }
+        ensures { result ≡ value_for_code action_rows text.now }
     {
         find(&actions(), text)
     }
@@ -89,7 +89,7 @@ impl Severity {
 
     /// Returns the severity with this character, or `None` if no severity has it.
     pub fn from_code(text: &[u8]) -> Option<Self>
-        ensures { result ≡ value_beside severity_rows text.now }
+        ensures { result ≡ value_for_code severity_rows text.now }
     {
         find(&severities(), text)
     }
@@ -110,7 +110,7 @@ impl Status {
 
     /// Returns the status with these two letters, or `None` if no status has them.
     pub fn from_code(text: &[u8]) -> Option<Self>
-        ensures { result ≡ value_beside status_rows text.now }
+        ensures { result ≡ value_for_code status_rows text.now }
     {
         find(&statuses(), text)
     }
@@ -118,7 +118,7 @@ impl Status {
 
 /// Returns the significance with this letter, or `None` if no significance has it.
 pub fn parse_significance(text: &[u8]) -> Option<Sig>
-    ensures { result ≡ value_beside sig_rows text.now }
+    ensures { result ≡ value_for_code sig_rows text.now }
 {
     find(&significances(), text)
 }

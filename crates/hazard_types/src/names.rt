@@ -1,6 +1,6 @@
 //! The texts of significances, kinds, categories, zones, hazards and events, both ways.
 ghost use Rattle.std.specs.Prelude.{◌≡◌, ◌≤◌, ◌++◌, OnOk, IfSome, Some, IsTrue, length};
-ghost use Rattle.hazard_types.specs.Codes.{value_beside};
+ghost use Rattle.hazard_types.specs.Codes.{value_for_code};
 ghost use Rattle.hazard_types.specs.Hazards.{hazard_code};
 ghost use Rattle.hazard_types.specs.Tables.{category_rows};
 ghost use Rattle.hazard_types.specs.Names.{category_code, sig_at, kind_code, kind_at, zone_text, zone_at, hazard_at, four_of, event_if, event_text, event_at, is_fl_phenomenon};
@@ -77,7 +77,7 @@ impl Category {
 
     /// Returns the category with these three letters, or `None` if no category has them.
     pub fn from_code(text: &[u8]) -> Option<Self>
-        ensures { result ≡ value_beside category_rows text.now }
+        ensures { result ≡ value_for_code category_rows text.now }
     {
         find(&categories(), text)
     }

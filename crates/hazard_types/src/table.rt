@@ -1,6 +1,6 @@
 //! Look-ups in tables of codes, both ways.
 ghost use Rattle.std.specs.Prelude.{◌≡◌, ℕ, List, Some, IfSome, IfNone};
-ghost use Rattle.hazard_types.specs.Codes.{without_padding, filled, value_beside, code_beside, SomeRow, IsTable, HoldsOfIdentical};
+ghost use Rattle.hazard_types.specs.Codes.{without_padding, filled, value_for_code, code_for_value, SomeRow, IsTable, HoldsOfIdentical};
 
 use crate::codes::Coded;
 
@@ -21,7 +21,7 @@ fn without_padding(code: &[u8; 4]) -> &[u8]
 ///
 /// Source: docs/DECISIONS.md, "Reading of texts" (codes in look-ups).
 pub fn find<T: Copy, const N: usize>(rows: &[Coded<T>; N], code: &[u8]) -> Option<T>
-    ensures value { result ≡ value_beside rows.now code.now }
+    ensures value { result ≡ value_for_code rows.now code.now }
     ensures found { IfSome result (λ v.
         SomeRow (λ row. (without_padding row.code ≡ code.now) × (row.value ≡ v)) rows.now) }
     ensures none { IfNone result (¬ SomeRow (λ row. without_padding row.code ≡ code.now) rows.now) }
@@ -37,7 +37,7 @@ pub fn find<T: Copy, const N: usize>(rows: &[Coded<T>; N], code: &[u8]) -> Optio
 /// Returns the code of the first row with this value, with its blanks, or `None` if no row has it.
 pub fn code_of<T: Copy + Eq, const N: usize>(rows: &[Coded<T>; N], value: T) -> Option<[u8; 4]>
     requires { HoldsOfIdentical T.eq }
-    ensures value { result ≡ code_beside T.eq rows.now value }
+    ensures value { result ≡ code_for_value T.eq rows.now value }
     ensures found { IfSome result (λ c.
         SomeRow (λ row. (row.code ≡ c) × (row.value ≡ value)) rows.now) }
     ensures none { IfNone result (¬ SomeRow (λ row. row.value ≡ value) rows.now) }
@@ -54,9 +54,9 @@ pub fn code_of<T: Copy + Eq, const N: usize>(rows: &[Coded<T>; N], value: T) -> 
 /// value.
 pub fn tables_are_inverse<T: Copy + Eq>()
     ensures read_back { (rows : List (Coded T)) (code : List ℕ) (v : T) →
-        HoldsOfIdentical T.eq → IsTable rows → value_beside rows code ≡ Some v →
-        code_beside T.eq rows v ≡ Some (filled code) }
+        HoldsOfIdentical T.eq → IsTable rows → value_for_code rows code ≡ Some v →
+        code_for_value T.eq rows v ≡ Some (filled code) }
     ensures written_back { (rows : List (Coded T)) (code : List ℕ) (v : T) →
-        HoldsOfIdentical T.eq → IsTable rows → code_beside T.eq rows v ≡ Some code →
-        value_beside rows (without_padding code) ≡ Some v }
+        HoldsOfIdentical T.eq → IsTable rows → code_for_value T.eq rows v ≡ Some code →
+        value_for_code rows (without_padding code) ≡ Some v }
 {}

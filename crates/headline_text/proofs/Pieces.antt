@@ -3,7 +3,7 @@ use Rattle.std.proofs.Common.{ℕ, ◌≡◌, ◌≢◌, ◌<◌, ◌≤◌, ◌
 use Rattle.std.proofs.lemmas.List.{drop-drop, drop_more, length-take-le}
 use Rattle.std.proofs.Math.Seq.{take-add}
 use Rattle.std.proofs.lemmas.Bool.Decides.{nat_tests}
-use Rattle.headline_text.specs.Wrapping.{fits_after, part, column_behind, Follows}
+use Rattle.headline_text.specs.Wrapping.{fits_after, part, column_after, Follows}
 use Rattle.headline_text.proofs.WholeWords.{behind_within, fill_within, some_column}
 
 -- what stands between two places
@@ -16,14 +16,14 @@ fits column word some low = grind (arith, nat_tests)
 part_by : (column c : ℕ) (cs : List ℕ) → 0 < column → column + 1 + length (c ∷ cs) ≤ 66 → part column (c ∷ cs) ≡ 32 ∷ c ∷ cs
 part_by column c cs some low = rw (some_column column some, fits column (c ∷ cs) some low) (ap (λ (xs : List ℕ). 32 ∷ xs) (fill_within (c ∷ cs) (column + 1) low))
 
-column_by : (column c : ℕ) (cs : List ℕ) → 0 < column → column + 1 + length (c ∷ cs) ≤ 66 → column_behind column (c ∷ cs) ≡ column + 1 + length (c ∷ cs)
+column_by : (column c : ℕ) (cs : List ℕ) → 0 < column → column + 1 + length (c ∷ cs) ≤ 66 → column_after column (c ∷ cs) ≡ column + 1 + length (c ∷ cs)
 column_by column c cs some low = rw (some_column column some, fits column (c ∷ cs) some low) (behind_within (c ∷ cs) (column + 1) low)
 
 part_so : (column : ℕ) (word : List ℕ) → 0 < column → 0 < length word → column + 1 + length word ≤ 66 → part column word ≡ 32 ∷ word
 part_so column [] some one low = absurd (omega (arith, one))
 part_so column (c ∷ cs) some one low = part_by column c cs some low
 
-column_so : (column : ℕ) (word : List ℕ) → 0 < column → 0 < length word → column + 1 + length word ≤ 66 → column_behind column word ≡ column + 1 + length word
+column_so : (column : ℕ) (word : List ℕ) → 0 < column → 0 < length word → column + 1 + length word ≤ 66 → column_after column word ≡ column + 1 + length word
 column_so column [] some one low = absurd (omega (arith, one))
 column_so column (c ∷ cs) some one low = column_by column c cs some low
 

@@ -4,7 +4,7 @@ use Rattle.std.specs.List.{All, AllByRecursion}
 use Rattle.std.proofs.lemmas.Bool.{cases_Bool}
 use Rattle.std.proofs.lemmas.Bool.Decides.{nat_tests}
 use Rattle.std.proofs.lemmas.List.Elements.{recursion_from_All}
-use Rattle.headline_text.specs.Wrapping.{with_word, words_from, words, fits_after, fill, behind, part, column_behind, lay, wrapped}
+use Rattle.headline_text.specs.Wrapping.{with_word, words_from, words, fits_after, fill, behind, part, column_after, lay, wrapped}
 use Rattle.headline_text.specs.Lines.{lines_from, lines, is_one_line, IsFullBefore, EndWhereFull}
 use Rattle.headline_text.proofs.WrapLaws.{AreWordBytes, IsWord, words_ok}
 use Rattle.headline_text.proofs.NameLaws.{goes_on}
@@ -71,9 +71,9 @@ first_laid c cs ws short =
     let w = c ∷ cs in
     let low : 0 + length w ≤ 66 = omega (arith, short) in
     let filled : part 0 w ≡ w = fill_within w 0 low in
-    let next : column_behind 0 w ≡ 0 + length w = behind_within w 0 low in
+    let next : column_after 0 w ≡ 0 + length w = behind_within w 0 low in
     let none : 0 + length w ≡ length w = omega arith in
-    ap (λ (xs : List ℕ). xs ++ lay (column_behind 0 w) ws) filled ∙ ap (λ (n : ℕ). w ++ lay n ws) (next ∙ none)
+    ap (λ (xs : List ℕ). xs ++ lay (column_after 0 w) ws) filled ∙ ap (λ (n : ℕ). w ++ lay n ws) (next ∙ none)
 
 laid_behind : (column c : ℕ) (cs : List ℕ) (ws : List (List ℕ)) → 0 < column → length (c ∷ cs) ≤ 64 → fits_after column (c ∷ cs) ≡ true → lay column ((c ∷ cs) ∷ ws) ≡ (32 ∷ c ∷ cs) ++ lay (column + 1 + length (c ∷ cs)) ws
 laid_behind column c cs ws begun short fits =
@@ -81,8 +81,8 @@ laid_behind column c cs ws begun short fits =
     let some = some_column column begun in
     let low = within_line column w short fits in
     let filled : part column w ≡ 32 ∷ w = rw (some, fits) (ap (λ (xs : List ℕ). 32 ∷ xs) (fill_within w (column + 1) low)) in
-    let next : column_behind column w ≡ column + 1 + length w = rw (some, fits) (behind_within w (column + 1) low) in
-    ap (λ (xs : List ℕ). xs ++ lay (column_behind column w) ws) filled ∙ ap (λ (n : ℕ). (32 ∷ w) ++ lay n ws) next
+    let next : column_after column w ≡ column + 1 + length w = rw (some, fits) (behind_within w (column + 1) low) in
+    ap (λ (xs : List ℕ). xs ++ lay (column_after column w) ws) filled ∙ ap (λ (n : ℕ). (32 ∷ w) ++ lay n ws) next
 
 laid_below : (column c : ℕ) (cs : List ℕ) (ws : List (List ℕ)) → 0 < column → length (c ∷ cs) ≤ 64 → fits_after column (c ∷ cs) ≡ false → lay column ((c ∷ cs) ∷ ws) ≡ 10 ∷ ((32 ∷ 32 ∷ c ∷ cs) ++ lay (2 + length (c ∷ cs)) ws)
 laid_below column c cs ws begun short full =
@@ -90,8 +90,8 @@ laid_below column c cs ws begun short full =
     let some = some_column column begun in
     let low : 2 + length w ≤ 66 = omega (arith, short) in
     let filled : part column w ≡ 10 ∷ 32 ∷ 32 ∷ w = rw (some, full) (ap (λ (xs : List ℕ). 10 ∷ 32 ∷ 32 ∷ xs) (fill_within w 2 low)) in
-    let next : column_behind column w ≡ 2 + length w = rw (some, full) (behind_within w 2 low) in
-    ap (λ (xs : List ℕ). xs ++ lay (column_behind column w) ws) filled ∙ ap (λ (n : ℕ). (10 ∷ 32 ∷ 32 ∷ w) ++ lay n ws) next
+    let next : column_after column w ≡ 2 + length w = rw (some, full) (behind_within w 2 low) in
+    ap (λ (xs : List ℕ). xs ++ lay (column_after column w) ws) filled ∙ ap (λ (n : ℕ). (10 ∷ 32 ∷ 32 ∷ w) ++ lay n ws) next
 
 -- ---- lines
 

@@ -2,17 +2,17 @@
 use Rattle.std.proofs.Common.{ℕ, ◌≡◌, ◌<◌, ◌≤◌, ◌+◌, ◌-◌, ◌==◌, false, List, [], ◌∷◌, ◌++◌, length, get_or, take, drop, refl, ap, sym, ◌∙◌, append_assoc, append-nil, length-drop, arith}
 use Rattle.std.proofs.lemmas.List.{drop_all, drop_more, take_more, get_or-drop}
 use Rattle.std.proofs.lemmas.Bool.Decides.{nat_tests}
-use Rattle.headline_text.specs.Wrapping.{with_word, words_from, words, part, column_behind, lay}
+use Rattle.headline_text.specs.Wrapping.{with_word, words_from, words, part, column_after, lay}
 
 -- the text so far, with the word that is begun and what is left, is the whole
 abbrev pub Going : List ℕ → List ℕ → ℕ → ℕ → ℕ → Type 0
 Going text out column start i = lay 0 (words text) ≡ out ++ lay column (words_from (take (i - start) (drop start text)) (drop i text))
 
-lay_with : (column : ℕ) (word : List ℕ) (more : List (List ℕ)) → lay column (with_word word more) ≡ part column word ++ lay (column_behind column word) more
+lay_with : (column : ℕ) (word : List ℕ) (more : List (List ℕ)) → lay column (with_word word more) ≡ part column word ++ lay (column_after column word) more
 lay_with column [] more = refl
 lay_with column (c ∷ cs) more = refl
 
-at_blank : (column : ℕ) (word : List ℕ) (c : ℕ) (cs : List ℕ) → c ≡ 32 → lay column (words_from word (c ∷ cs)) ≡ part column word ++ lay (column_behind column word) (words_from [] cs)
+at_blank : (column : ℕ) (word : List ℕ) (c : ℕ) (cs : List ℕ) → c ≡ 32 → lay column (words_from word (c ∷ cs)) ≡ part column word ++ lay (column_after column word) (words_from [] cs)
 at_blank column word c cs is = rw is (lay_with column word (words_from [] cs))
 
 other_byte : (c : ℕ) → (c ≡ 32 → ⊥) → (c == 32) ≡ false
@@ -22,7 +22,7 @@ at_other : (word : List ℕ) (c : ℕ) (cs : List ℕ) → (c ≡ 32 → ⊥) �
 at_other word c cs differs = rw (other_byte c differs)
 
 pub blank_step : (text out out' : List ℕ) (column column' start i : ℕ) → Going text out column start i → i < length text → get_or text i 0 ≡ 32
-    → out' ≡ out ++ part column (take (i - start) (drop start text)) → column' ≡ column_behind column (take (i - start) (drop start text)) → Going text out' column' (i + 1) (i + 1)
+    → out' ≡ out ++ part column (take (i - start) (drop start text)) → column' ≡ column_after column (take (i - start) (drop start text)) → Going text out' column' (i + 1) (i + 1)
 blank_step text out out' column column' start i going lt is out_is column_is =
     let word = take (i - start) (drop start text) in
     let none : i + 1 - (i + 1) ≡ 0 = omega arith in

@@ -5,7 +5,7 @@ use Rattle.std.proofs.lemmas.Bool.{cases_Bool}
 use Rattle.std.proofs.lemmas.Bool.Decides.{nat_tests}
 use Rattle.std.proofs.lemmas.List.Folds.{list_any-append, list_all-append}
 use Rattle.std.proofs.lemmas.List.Elements.{All-from_recursion, filter-append}
-use Rattle.headline_text.specs.Wrapping.{with_word, words_from, words, next_line, fits_after, lead, start, fill, behind, part, column_behind, lay, wrapped}
+use Rattle.headline_text.specs.Wrapping.{with_word, words_from, words, next_line, fits_after, lead, start, fill, behind, part, column_after, lay, wrapped}
 use Rattle.headline_text.specs.Lines.{lines_from, lines, has_word, is_one_line, without_blanks}
 
 pub both : (a b : Bool) → (a && b) ≡ true → (a ≡ true) × (b ≡ true)
@@ -90,9 +90,9 @@ part_whole column (c ∷ cs) h =
 lay_whole : (ws : List (List ℕ)) (column : ℕ) → AllByRecursion IsWord ws → without_blanks (lay column ws) ≡ concat ws
 lay_whole [] column h = refl
 lay_whole (w ∷ ws) column h =
-    filter-append kept (part column w) (lay (column_behind column w) ws)
-    ∙ ap (λ (xs : List ℕ). xs ++ without_blanks (lay (column_behind column w) ws)) (part_whole column w h.0.bytes)
-    ∙ ap (λ (xs : List ℕ). w ++ xs) (lay_whole ws (column_behind column w) h.1)
+    filter-append kept (part column w) (lay (column_after column w) ws)
+    ∙ ap (λ (xs : List ℕ). xs ++ without_blanks (lay (column_after column w) ws)) (part_whole column w h.0.bytes)
+    ∙ ap (λ (xs : List ℕ). w ++ xs) (lay_whole ws (column_after column w) h.1)
 
 pub wrapped_whole : (text : List ℕ) → is_one_line text ≡ true → without_blanks (wrapped text) ≡ without_blanks text
 unfolding wrapped
@@ -156,7 +156,7 @@ lay_fine [] later line column h f is = (f, tt)
 lay_fine ([] ∷ ws) later line column h f is = absurd (h.0.some refl)
 lay_fine ((c ∷ cs) ∷ ws) later line column h f is =
     let w = c ∷ cs in
-    let going : Rest (lay (column_behind column w) ws) (column_behind column w) = λ later' line' f' is'. lay_fine ws later' line' (column_behind column w) h.1 f' is' in
+    let going : Rest (lay (column_after column w) ws) (column_after column w) = λ later' line' f' is'. lay_fine ws later' line' (column_after column w) h.1 f' is' in
     let begun : (column == 0) ≡ false = some_column line column f.filled is in
     elim (cases_Bool (fits_after column w)) [
       | inl fits ↦
@@ -301,7 +301,7 @@ module _ (p : ℕ → Bool) (blank : p 32 ≡ true) (break : p 10 ≡ true) wher
 
   lay_passes : (ws : List (List ℕ)) (column : ℕ) → AllByRecursion Pass ws → Pass (lay column ws)
   lay_passes [] column h = refl
-  lay_passes (w ∷ ws) column h = joined (part column w) (lay (column_behind column w) ws) (part_passes column w h.0) (lay_passes ws (column_behind column w) h.1)
+  lay_passes (w ∷ ws) column h = joined (part column w) (lay (column_after column w) ws) (part_passes column w h.0) (lay_passes ws (column_after column w) h.1)
 
   -- a test that blanks, LF and the bytes of a text pass
   pub wrapped_passes : (text : List ℕ) → Pass text → Pass (wrapped text)

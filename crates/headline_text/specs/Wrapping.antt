@@ -50,14 +50,14 @@ abbrev pub part : ℕ → List ℕ → List ℕ
 part column [] = []
 part column (c ∷ cs) = lead column (c ∷ cs) ++ fill (start column (c ∷ cs)) (c ∷ cs)
 
-abbrev pub column_behind : ℕ → List ℕ → ℕ
-column_behind column [] = column
-column_behind column (c ∷ cs) = behind (start column (c ∷ cs)) (c ∷ cs)
+abbrev pub column_after : ℕ → List ℕ → ℕ
+column_after column [] = column
+column_after column (c ∷ cs) = behind (start column (c ∷ cs)) (c ∷ cs)
 
 -- words from a column on
 abbrev pub lay : ℕ → List (List ℕ) → List ℕ
 lay column [] = []
-lay column (word ∷ more) = part column word ++ lay (column_behind column word) more
+lay column (word ∷ more) = part column word ++ lay (column_after column word) more
 
 -- lines of at most 66 characters with LF between them; each after the first begins with two blanks
 unfoldable pub wrapped : List ℕ → List ℕ
@@ -66,6 +66,6 @@ wrapped text = lay 0 (words text)
 -- the word from one place to another stands in the text behind one blank, and stands so on its line
 pub record Follows (text : List ℕ) (column to start end : ℕ) : Type 0 where
   pub piece : (from : ℕ) → from ≤ to → take (end - from) (drop from text) ≡ take (to - from) (drop from text) ++ part column (take (end - start) (drop start text))
-  pub moves : column_behind column (take (end - start) (drop start text)) ≡ column + (end - to)
+  pub moves : column_after column (take (end - start) (drop start text)) ≡ column + (end - to)
   pub within : column + (end - to) ≤ 66
   pub order : to ≤ end

@@ -1,6 +1,6 @@
 //! Wraps texts.
 ghost use Rattle.std.specs.Prelude.{◌≡◌, ◌≤◌, ◌<◌, [], ◌∷◌, ◌++◌, length, true, OnOk, IfOk};
-ghost use Rattle.headline_text.specs.Wrapping.{room, fits_after, lead, start, fill, behind, part, column_behind, wrapped, Follows};
+ghost use Rattle.headline_text.specs.Wrapping.{room, fits_after, lead, start, fill, behind, part, column_after, wrapped, Follows};
 
 use hazard_types::{Oom, Text};
 use std::alloc::Global;
@@ -83,7 +83,7 @@ fn fill(out: &mut Text, column: usize, word: &[u8]) -> Result<usize, Oom>
 fn put(out: &mut Text, column: usize, word: &[u8]) -> Result<usize, Oom>
     requires { column ≤ 66 }
     ensures text { OnOk result (out.new ≡ out.old ++ part column word.now) }
-    ensures column { IfOk result (λ next. next ≡ column_behind column word.now) }
+    ensures column { IfOk result (λ next. next ≡ column_after column word.now) }
     ensures within { IfOk result (λ next. next ≤ 66) }
 {
     if word.is_empty() {

@@ -12,7 +12,7 @@ use Rattle.hazard_types.specs.Places.{are_letters}
 use Rattle.hazard_types.specs.declared.codes.Severity.{Severity}
 use Rattle.hazard_types.specs.declared.codes.Status.{Status}
 use Rattle.hazard_types.specs.declared.line.Flood.{Flood}
-use Rattle.hazard_types.specs.Codes.{value_beside}
+use Rattle.hazard_types.specs.Codes.{value_for_code}
 use Rattle.hazard_types.specs.Tables.{severity_rows, status_rows}
 use Rattle.hazard_types.specs.Letters.{severity_code, status_code}
 use Rattle.hazard_types.specs.Characters.{location_at, is_location}
@@ -91,13 +91,13 @@ columns_of h two location letters begin crest end =
       separated = record { before_location = s0.0; before_severity = s2.0; before_cause = s4.0; before_begin = s6.0; before_crest = s8.0; before_end = s10.0; before_status = s12.0; behind = s14.0 };
       location = s1.0;
       is_location = location;
-      severity = ap (value_beside severity_rows) s3.0 ∙ severity_found h.severity;
+      severity = ap (value_for_code severity_rows) s3.0 ∙ severity_found h.severity;
       cause = s5.0;
       are_letters = letters;
       begin = subst (λ (text : List ℕ). IsTime text h.begin) (sym s7.0) begin;
       crest = subst (λ (text : List ℕ). IsTime text h.crest) (sym s9.0) crest;
       end = subst (λ (text : List ℕ). IsTime text h.end) (sym s11.0) end;
-      status = ap (value_beside status_rows) s13.0 ∙ status_found h.status;
+      status = ap (value_for_code status_rows) s13.0 ∙ status_found h.status;
     }
 
 -- ---- what is read
@@ -223,8 +223,8 @@ hvtec_hit b h is =
     let test : has_columns b ≡ true = and_from _ _ size separated in
     let location : location_at (slice_range b 1 6) ≡ Some h.site = ap location_at is.location ∙ rw is.is_location refl in
     let cause : cause_at (slice_range b 9 11) ≡ Some h.cause = ap cause_at is.cause ∙ rw is.are_letters refl in
-    let severity : value_beside severity_rows (slice_range b 7 8) ≡ Some h.severity = is.severity in
-    let status : value_beside status_rows (slice_range b 51 53) ≡ Some h.status = is.status in
+    let severity : value_for_code severity_rows (slice_range b 7 8) ≡ Some h.severity = is.severity in
+    let status : value_for_code status_rows (slice_range b 51 53) ≡ Some h.status = is.status in
     let begin : time_at (slice_range b 12 24) ≡ Some h.begin = time_hit _ h.begin is.begin in
     let crest : time_at (slice_range b 25 37) ≡ Some h.crest = time_hit _ h.crest is.crest in
     let end : time_at (slice_range b 38 50) ≡ Some h.end = time_hit _ h.end is.end in

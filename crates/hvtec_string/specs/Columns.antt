@@ -7,7 +7,7 @@ use Rattle.hazard_types.specs.Places.{are_letters}
 use Rattle.hazard_types.specs.declared.codes.Severity.{Severity}
 use Rattle.hazard_types.specs.declared.codes.Status.{Status}
 use Rattle.hazard_types.specs.declared.line.Flood.{Flood}
-use Rattle.hazard_types.specs.Codes.{value_beside}
+use Rattle.hazard_types.specs.Codes.{value_for_code}
 use Rattle.hazard_types.specs.Tables.{severity_rows, status_rows}
 use Rattle.hazard_types.specs.Letters.{severity_code, status_code}
 
@@ -28,13 +28,13 @@ pub record IsHvtec (bytes : List ℕ) (h : Flood) : Type 0 where
   pub separated : AreSeparated bytes
   pub location : slice_range bytes 1 6 ≡ h.site
   pub is_location : IsTrue (is_location h.site)
-  pub severity : value_beside severity_rows (slice_range bytes 7 8) ≡ Some h.severity
+  pub severity : value_for_code severity_rows (slice_range bytes 7 8) ≡ Some h.severity
   pub cause : slice_range bytes 9 11 ≡ h.cause
   pub are_letters : IsTrue (are_letters h.cause)
   pub begin : IsTime (slice_range bytes 12 24) h.begin
   pub crest : IsTime (slice_range bytes 25 37) h.crest
   pub end : IsTime (slice_range bytes 38 50) h.end
-  pub status : value_beside status_rows (slice_range bytes 51 53) ≡ Some h.status
+  pub status : value_for_code status_rows (slice_range bytes 51 53) ≡ Some h.status
 
 -- the one text of these values
 unfoldable pub hvtec_text : Flood → List ℕ
@@ -70,5 +70,5 @@ values (Some l) (Some s) (Some c) (Some b) (Some t) (Some e) (Some f) = Some (re
 unfoldable pub hvtec_of : List ℕ → Option Flood
 hvtec_of b =
     if has_columns b
-    then values (location_at (slice_range b 1 6)) (value_beside severity_rows (slice_range b 7 8)) (cause_at (slice_range b 9 11)) (time_at (slice_range b 12 24)) (time_at (slice_range b 25 37)) (time_at (slice_range b 38 50)) (value_beside status_rows (slice_range b 51 53))
+    then values (location_at (slice_range b 1 6)) (value_for_code severity_rows (slice_range b 7 8)) (cause_at (slice_range b 9 11)) (time_at (slice_range b 12 24)) (time_at (slice_range b 25 37)) (time_at (slice_range b 38 50)) (value_for_code status_rows (slice_range b 51 53))
     else None

@@ -19,7 +19,7 @@ use Rattle.event_life.specs.Products.{going_in, is_routine, row_at}
 use Rattle.event_numbers.specs.declared.Count.{Count}
 use Rattle.action_planner.specs.Conditions.{AreNumbered}
 use Rattle.action_planner.specs.Placed.{Placed, event_of_intent, placed_from, zones_of}
-use Rattle.action_planner.specs.Lines.{added_lines, finish_lines, goes_on_beside, is_near_end, is_overlaid, line_on, lines_from, lines_in, planned_lines, restate_lines}
+use Rattle.action_planner.specs.Lines.{added_lines, finish_lines, is_continued, is_near_end, is_overlaid, line_on, lines_from, lines_in, planned_lines, restate_lines}
 use Rattle.action_planner.proofs.LawfulLists.{all_append, all_each, all_map, any_has, every}
 use Rattle.action_planner.proofs.LawfulKeys.{each_intent, each_zone, either_action, put-no_routine}
 use Rattle.action_planner.proofs.RoutineLemmas.{is_routine_intent, numbered_from}
@@ -65,7 +65,7 @@ module _ (rows : List Row) (t : ℕ) (all : List Placed) where
   pub routine_zero : (c : Category) → AllByRecursion (IsPlacedZero t) all → AllByRecursion (HasZeroOf t) (planned_lines c rows t all)
   routine_zero c zeros = all_append (HasZeroOf t) (lines_from rows t all all) (added_lines c rows t all)
       (each_intent rows t all (HasZeroOf t) (IsPlacedZero t) (λ p h. each_zone rows t all (HasZeroOf t) (λ z. Unit {0}) p.event p.intent (λ z u. zero_in p.event p.intent z h) (zones_of p.intent) (all_each (λ z. Unit {0}) (λ z. tt) (zones_of p.intent))) all zeros)
-      (all_map (HasZeroOf t) (line_on Con t) (filter (goes_on_beside c t all) rows) (all_each (λ r. HasZeroOf t (line_on Con t r)) (λ r h. cc) (filter (goes_on_beside c t all) rows)))
+      (all_map (HasZeroOf t) (line_on Con t) (filter (is_continued c t all) rows) (all_each (λ r. HasZeroOf t (line_on Con t r)) (λ r h. cc) (filter (is_continued c t all) rows)))
 
 -- no row has number 0000
 

@@ -24,7 +24,7 @@ use Rattle.office_types.specs.declared.request.Intent.{Intent}
 use Rattle.office_types.specs.declared.request.Plan.{Plan}
 use Rattle.office_types.specs.declared.request.Sent.{Sent}
 use Rattle.office_types.specs.declared.request.Texts.{Texts}
-use Rattle.desk_settings.specs.Looking.{name_beside}
+use Rattle.desk_settings.specs.Looking.{name_for_zone}
 use Rattle.event_numbers.specs.declared.Count.{Count}
 use Rattle.headline_text.specs.Headlines.{is_minute}
 use Rattle.product_frame.specs.LineRules.{HasLocation}
@@ -48,7 +48,7 @@ use Rattle.action_planner.proofs.LineLemmas.{IsClosed, corrected_given, correcte
 use Rattle.action_planner.proofs.Standing.{later}
 use Rattle.action_planner.proofs.ToldLemmas.{rows_tell_places}
 use Rattle.action_planner.proofs.SourceLemmas.{FromRow}
-use Rattle.product_template.specs.Conditions.{AreNamed, ArePrintable, CanBeSaid, CanBeSegment, CanBeText, IsLetter}
+use Rattle.product_template.specs.Conditions.{AreNamed, ArePrintable, CanBeWritten, CanBeSegment, CanBeText, IsLetter}
 use Rattle.office_core.specs.Keeping.{MayBePlanned}
 use Rattle.office_core.specs.Making.{Making, IsPlanOf, broken_lines, last_of_category, letters_of, original_of}
 use Rattle.office_core.specs.Sound.{AreSoundIntents, IsNamed, IsPrintable, IsSound, IsSoundIntent, IsSoundMaking, IsSoundProduct, IsSoundRow, has_location}
@@ -99,19 +99,19 @@ module _ (lines : List Line) (segments : List Segment) (are : AreSegments lines 
       let w = (said lines segments are z l.0).0 (s, has, own, l.1) in
       subst P w.2 (all_at (λ (line : Line). P line.zone) lines w.0 all w.1)
 
-  can_be_segments : All (λ (line : Line). CanBeSaid (without_zone line)) lines → All CanBeSegment segments
+  can_be_segments : All (λ (line : Line). CanBeWritten (without_zone line)) lines → All CanBeSegment segments
   can_be_segments all =
-      let each = recursion_from_All (λ (line : Line). CanBeSaid (without_zone line)) lines all in
+      let each = recursion_from_All (λ (line : Line). CanBeWritten (without_zone line)) lines all in
       All-from_recursion CanBeSegment segments (all_from CanBeSegment segments (λ s has. record {
         some = some_length s.zones (full s has).0;
         order = all_at (λ (x : Segment). IsStrictlySortedBy by_place x.zones) segments s are.sorted has;
-        lines = All-from_recursion CanBeSaid s.lines (all_from CanBeSaid s.lines (each_said CanBeSaid each s has));
+        lines = All-from_recursion CanBeWritten s.lines (all_from CanBeWritten s.lines (each_said CanBeWritten each s has));
       }))
 
-  are_named : (names : List (Place × List ℕ)) → AllByRecursion (λ (line : Line). IsSome (name_beside names line.zone)) lines → AreNamed names segments
+  are_named : (names : List (Place × List ℕ)) → AllByRecursion (λ (line : Line). IsSome (name_for_zone names line.zone)) lines → AreNamed names segments
   are_named names all =
-      let P : Segment → Type 0 = λ s. All (λ (z : Place). IsSome (name_beside names z)) s.zones in
-      All-from_recursion P segments (all_from P segments (λ s has. All-from_recursion (λ (z : Place). IsSome (name_beside names z)) s.zones (all_from (λ (z : Place). IsSome (name_beside names z)) s.zones (each_zone (λ (z : Place). IsSome (name_beside names z)) all s has))))
+      let P : Segment → Type 0 = λ s. All (λ (z : Place). IsSome (name_for_zone names z)) s.zones in
+      All-from_recursion P segments (all_from P segments (λ s has. All-from_recursion (λ (z : Place). IsSome (name_for_zone names z)) s.zones (all_from (λ (z : Place). IsSome (name_for_zone names z)) s.zones (each_zone (λ (z : Place). IsSome (name_for_zone names z)) all s has))))
 
 -- ---- lines
 
@@ -203,7 +203,7 @@ module _ (s : State) (counts : List Count) (t : ℕ) (sound : IsSound s counts) 
         (λ line w. All-contains (IsNamed s.settings s.class) (zones_of w.1) line.zone (All-contains (IsSoundIntent s.settings s.class c) intents w.1 own.each (w.0, w.2, w.3)).named w.4)
         said_lines (lines_in_zones_given c s.rows counts intents t)
 
-    planned_said : broken c s.rows t (placed counts t intents) ≡ None → All (λ (line : Line). CanBeSaid (without_zone line)) said_lines
+    planned_said : broken c s.rows t (placed counts t intents) ≡ None → All (λ (line : Line). CanBeWritten (without_zone line)) said_lines
     planned_said h =
         let can = can_plan s counts t c intents sound le most own in
         let hazards = known_lines c s.rows counts intents t can sound.stands.known in
@@ -221,7 +221,7 @@ module _ (s : State) (counts : List Count) (t : ℕ) (sound : IsSound s counts) 
       forms = sound.forms;
       segments = can_be_segments said_lines plan.segments is.segments (planned_said h);
       names = λ plain. are_named said_lines plan.segments is.segments s.settings.zones
-          (all_weaker (λ (line : Line). IsNamed s.settings s.class line.zone) (λ (line : Line). IsSome (name_beside s.settings.zones line.zone)) (λ line named. named plain) said_lines
+          (all_weaker (λ (line : Line). IsNamed s.settings s.class line.zone) (λ (line : Line). IsSome (name_for_zone s.settings.zones line.zone)) (λ line named. named plain) said_lines
           (recursion_from_All (λ (line : Line). IsNamed s.settings s.class line.zone) said_lines planned_zones));
       texts = subst (All ArePrintable) (sym is.texts) (All-from_recursion ArePrintable (event_texts (placed counts t intents) (events_of said_lines))
           (planned_printable counts t intents (events_of said_lines) (all_weaker (IsSoundIntent s.settings s.class c) (λ (i : Intent). IsPrintable (texts_of i)) (λ i sure. sure.printable) intents (recursion_from_All (IsSoundIntent s.settings s.class c) intents own.each))));
@@ -247,7 +247,7 @@ module _ (s : State) (counts : List Count) (t : ℕ) (sound : IsSound s counts) 
         (λ line f. subst (IsNamed s.settings s.class) f.zone (all_has (IsSoundRow s.settings s.class) s.rows f.row (recursion_from_All (IsSoundRow s.settings s.class) s.rows sound.rows) f.there).named)
         left_lines (from_rows s.rows t sent.lines)
 
-    corrected_said : All (λ (line : Line). CanBeSaid (without_zone line)) left_lines
+    corrected_said : All (λ (line : Line). CanBeWritten (without_zone line)) left_lines
     corrected_said =
         let hazards = known_corrected s.rows t sent.lines sound.stands.known in
         let numbers = numbered_corrected s.rows counts t sent.lines sound.stands.numbered sound.stands.digits in
@@ -272,7 +272,7 @@ module _ (s : State) (counts : List Count) (t : ℕ) (sound : IsSound s counts) 
       forms = sound.forms;
       segments = can_be_segments left_lines plan.segments is.segments corrected_said;
       names = λ plain. are_named left_lines plan.segments is.segments s.settings.zones
-          (all_weaker (λ (line : Line). IsNamed s.settings s.class line.zone) (λ (line : Line). IsSome (name_beside s.settings.zones line.zone)) (λ line named. named plain) left_lines corrected_zones);
+          (all_weaker (λ (line : Line). IsNamed s.settings s.class line.zone) (λ (line : Line). IsSome (name_for_zone s.settings.zones line.zone)) (λ line named. named plain) left_lines corrected_zones);
       texts = subst (All ArePrintable) (sym is.texts) (All-from_recursion ArePrintable (corrected_texts given sent.texts (events_of left_lines))
           (corrected_printable given sent.texts (events_of left_lines) (recursion_from_All ArePrintable given texts) (recursion_from_All ArePrintable sent.texts own.printable)));
       letter = subst IsLetter (sym is.letter) (capital (letters_of s.products (original_of sent)) (letter_left h));

@@ -14,7 +14,7 @@ use Rattle.office_types.specs.declared.request.Request.{Request}
 use Rattle.office_types.specs.declared.request.Request.TheVariants.{Begin, Put, Drop, Correct}
 use Rattle.office_types.specs.declared.request.Target.{Target}
 use Rattle.office_types.specs.declared.request.Target.TheVariants.{Fresh, Join}
-use Rattle.desk_settings.specs.Looking.{name_beside}
+use Rattle.desk_settings.specs.Looking.{name_for_zone}
 use Rattle.desk_settings.specs.declared.settings.Settings.{Settings}
 use Rattle.action_planner.specs.Fitting.{of_other_kind, opens_with, are_zones}
 use Rattle.action_planner.specs.Lines.{follows}
@@ -106,7 +106,7 @@ no_intent _ _ = None
 
 -- the zone may be named: it is in the settings, or any zone may be
 abbrev pub is_unknown_zone : Settings → Place → Bool
-is_unknown_zone settings z = not settings.any_zone && is_none (name_beside settings.zones z)
+is_unknown_zone settings z = not settings.any_zone && is_none (name_for_zone settings.zones z)
 
 -- UnknownZone: the settings have no such zone
 abbrev pub unknown_zone : Settings → Option Intent → Option Refusal

@@ -15,7 +15,7 @@ use Rattle.office_types.specs.declared.request.Intent.{Intent}
 use Rattle.office_types.specs.declared.request.Sent.{Sent}
 use Rattle.office_types.specs.declared.request.Texts.{Texts}
 use Rattle.desk_settings.specs.AreSettings.{HasForms}
-use Rattle.desk_settings.specs.Looking.{name_beside}
+use Rattle.desk_settings.specs.Looking.{name_for_zone}
 use Rattle.desk_settings.specs.declared.settings.Settings.{Settings}
 use Rattle.event_life.specs.Products.{by_key}
 use Rattle.event_numbers.specs.declared.Count.{Count}
@@ -32,7 +32,7 @@ use Rattle.office_core.specs.declared.heard.DeskRecord.{DeskRecord}
 
 -- the zone has a name, but for training, where it may lack one
 abbrev pub IsNamed : Settings → Class → Place → Type 0
-IsNamed settings class z = is_training class ≡ false → IsSome (name_beside settings.zones z)
+IsNamed settings class z = is_training class ≡ false → IsSome (name_for_zone settings.zones z)
 
 -- the location has its form
 abbrev pub has_location : Flood → Bool

@@ -6,7 +6,7 @@ ghost use Rattle.office_core.specs.State.{is_draft};
 ghost use Rattle.office_core.specs.declared.prepared.DraftChange.TheVariants.{Open};
 ghost use Rattle.office_core.specs.Step.{drafts_after, taken_by, with_draft, with_intent, without_draft, without_intent};
 
-use crate::copies::{clone_put, copied_event, copied_intents, copied_routine};
+use crate::copies::{clone_event, clone_put, clone_routine, copied_intents};
 use crate::office::Office;
 use crate::prepared::DraftChange;
 use hazard_types::{Category, List, Minute, Oom};
@@ -176,19 +176,13 @@ impl Office {
             Request::Begin(category) => Ok(opened_draft(alloc, self.begun + 1, desk, *category, t)),
             Request::Put(id, part) => put_in(alloc, drafts, *id, t, Intent::Put(clone_put(part)?)),
             Request::Finish(id, part) => {
-                put_in(alloc, drafts, *id, t, Intent::Finish(copied_event(part)?))
+                put_in(alloc, drafts, *id, t, Intent::Finish(clone_event(part)?))
             }
             Request::Restate(id, part) => {
-                put_in(alloc, drafts, *id, t, Intent::Restate(copied_event(part)?))
+                put_in(alloc, drafts, *id, t, Intent::Restate(clone_event(part)?))
             }
             Request::Routine(id, part) => {
-                put_in(
-                    alloc,
-                    drafts,
-                    *id,
-                    t,
-                    Intent::Routine(copied_routine(part)?),
-                )
+                put_in(alloc, drafts, *id, t, Intent::Routine(clone_routine(part)?))
             }
             Request::Drop(id, place) => drop_from(alloc, drafts, *id, t, *place as usize),
             Request::Take(id) => take_over(alloc, drafts, *id, t, desk),

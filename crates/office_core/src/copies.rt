@@ -11,26 +11,26 @@ pub(crate) fn clone_put(part: &PutPart) -> Result<PutPart, Oom>
     Ok(part.clone()?)
 }
 
-pub(crate) fn copied_event(part: &EventPart) -> Result<EventPart, Oom>
+pub(crate) fn clone_event(part: &EventPart) -> Result<EventPart, Oom>
     ensures { IfOk result (λ copy. copy ≡ part.now) }
 {
     Ok(part.clone()?)
 }
 
-pub(crate) fn copied_routine(part: &RoutinePart) -> Result<RoutinePart, Oom>
+pub(crate) fn clone_routine(part: &RoutinePart) -> Result<RoutinePart, Oom>
     ensures { IfOk result (λ copy. copy ≡ part.now) }
 {
     Ok(part.clone()?)
 }
 
-pub(crate) fn copied_intent(intent: &Intent) -> Result<Intent, Oom>
+pub(crate) fn clone_intent(intent: &Intent) -> Result<Intent, Oom>
     ensures { IfOk result (λ copy. copy ≡ intent.now) }
 {
     match intent {
         Intent::Put(part) => Ok(Intent::Put(clone_put(part)?)),
-        Intent::Finish(part) => Ok(Intent::Finish(copied_event(part)?)),
-        Intent::Restate(part) => Ok(Intent::Restate(copied_event(part)?)),
-        Intent::Routine(part) => Ok(Intent::Routine(copied_routine(part)?)),
+        Intent::Finish(part) => Ok(Intent::Finish(clone_event(part)?)),
+        Intent::Restate(part) => Ok(Intent::Restate(clone_event(part)?)),
+        Intent::Routine(part) => Ok(Intent::Routine(clone_routine(part)?)),
     }
 }
 
@@ -39,21 +39,21 @@ pub(crate) fn copied_intents(alloc: Global, intents: &[Intent]) -> Result<List<I
 {
     let mut copy = List::new(alloc);
     for intent in intents {
-        copy.push(copied_intent(intent)?)?;
+        copy.push(clone_intent(intent)?)?;
     }
     Ok(copy)
 }
 
-pub(crate) fn copied_request(r: &Request) -> Result<Request, Oom>
+pub(crate) fn clone_request(r: &Request) -> Result<Request, Oom>
     ensures { IfOk result (λ copy. copy ≡ r.now) }
 {
     match r {
         Request::Issue(part) => Ok(Request::Issue(clone_put(part)?)),
         Request::Begin(category) => Ok(Request::Begin(*category)),
         Request::Put(id, part) => Ok(Request::Put(*id, clone_put(part)?)),
-        Request::Finish(id, part) => Ok(Request::Finish(*id, copied_event(part)?)),
-        Request::Restate(id, part) => Ok(Request::Restate(*id, copied_event(part)?)),
-        Request::Routine(id, part) => Ok(Request::Routine(*id, copied_routine(part)?)),
+        Request::Finish(id, part) => Ok(Request::Finish(*id, clone_event(part)?)),
+        Request::Restate(id, part) => Ok(Request::Restate(*id, clone_event(part)?)),
+        Request::Routine(id, part) => Ok(Request::Routine(*id, clone_routine(part)?)),
         Request::Drop(id, place) => Ok(Request::Drop(*id, *place)),
         Request::Take(id) => Ok(Request::Take(*id)),
         Request::Discard(id) => Ok(Request::Discard(*id)),

@@ -14,7 +14,7 @@ ghost use Rattle.office_core.specs.WellMade.{HasRoomForIf};
 ghost use Rattle.office_core.specs.declared.prepared.Ready.TheVariants.{Again, New};
 
 use crate::agreement_laws::products_keep_the_agreement;
-use crate::copies::copied_request;
+use crate::copies::clone_request;
 use crate::made::Made;
 use crate::office::Office;
 use crate::prepared::{Prepared, Ready};
@@ -87,7 +87,7 @@ impl Office {
     {
         let change = self.change_of(alloc, &desk, r, t)?;
         let reply = self.reply_of(r, &made)?;
-        let request = copied_request(r)?;
+        let request = clone_request(r)?;
         let entry = Entry {
             minute: t,
             desk,

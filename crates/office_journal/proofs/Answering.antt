@@ -17,7 +17,7 @@ use Rattle.office_journal.specs.Bodies.{entry_body}
 use Rattle.office_journal.specs.Changes.{Change, Leaves, body_of}
 use Rattle.office_journal.specs.Histories.{History, IsHistory, bodies}
 use Rattle.office_journal.specs.Kept.{HasHistory, Holds, disk_of, entries_of, gate_of, notes_of, state_of}
-use Rattle.office_journal.specs.Outcomes.{AtAnyMoment, Becomes, HasEntered, HasFailed, IsAgain, IsAsBefore, Names, StandsBeside}
+use Rattle.office_journal.specs.Outcomes.{AtAnyMoment, Becomes, HasEntered, HasFailed, IsAgain, IsAsBefore, Names, ComesWith}
 use Rattle.office_journal.specs.Submitting.{IsAsked, IsOffered, IsTooLong, entered}
 use Rattle.office_journal.specs.declared.answers.Answer.{Answer}
 use Rattle.office_journal.specs.declared.answers.Answer.TheVariants.{Accepted, Repeated, Refused, DiskFault, OutOfMemory}
@@ -121,7 +121,7 @@ module _ {D : Type 0} {d : _} (seen : D → Option (List ℕ)) (crash : D → Cr
 
   -- what stands beside the answer
   pub names_on : (new : KeptOffice D d) (faults : D → ℕ) (p : Readied) (offered : Entered → Type 0) (kept : List ℕ → Type 0) (broken : Refusal → Type 0) → offered (entered p)
-      → (answer : Answer) (told : Option Readied) → Becomes seen crash faults mid new (λ x. x ≡ entered p) (λ text. ⊥) (λ x. ⊥) answer → StandsBeside answer p told → Names seen crash faults old new offered kept broken answer told
+      → (answer : Answer) (told : Option Readied) → Becomes seen crash faults mid new (λ x. x ≡ entered p) (λ text. ⊥) (λ x. ⊥) answer → ComesWith answer p told → Names seen crash faults old new offered kept broken answer told
   names_on new faults p offered kept broken so (Accepted text) told (x, is, reply, has) beside =
       (p, beside, so, reply ∙ ap (λ (y : Entered). reply_text y.entry.reply) is, subst (λ (y : Entered). HasEntered seen crash faults old new y) is (entered_on new faults x has))
   names_on new faults p offered kept broken so (Repeated text) told becomes beside = beside

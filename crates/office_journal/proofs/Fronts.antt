@@ -5,7 +5,7 @@ use Rattle.office_types.specs.declared.request.Edition.{Edition}
 use Rattle.office_types.specs.declared.request.Edition.TheVariants.{One, Two}
 use Rattle.office_core.specs.Histories.{Entered, MayFollow}
 use Rattle.office_journal.specs.Changes.{Change, Leaves}
-use Rattle.office_journal.specs.Given.{Gave, GivesNext, IsFront, MayPend, entries_given, history_behind, pends_after, with_entry, with_given}
+use Rattle.office_journal.specs.Given.{Gave, GivesNext, IsFront, MayPend, entries_given, history_after, pends_after, with_entry, with_given}
 use Rattle.office_journal.specs.Grown.{Follows}
 use Rattle.office_journal.specs.Histories.{History}
 use Rattle.office_journal.proofs.Carrying.{leaves_less}
@@ -20,7 +20,7 @@ loosened file h P c (inr more) = inr (more.0, tt, more.2)
 
 -- ---- what was given, and more
 
-pub behind_append : (h : History) (xs ys : List Gave) → history_behind h (xs ++ ys) ≡ history_behind (history_behind h xs) ys
+pub behind_append : (h : History) (xs ys : List Gave) → history_after h (xs ++ ys) ≡ history_after (history_after h xs) ys
 behind_append h [] ys = refl
 behind_append h (x ∷ xs) ys = behind_append (with_given h x) xs ys
 
@@ -53,7 +53,7 @@ entry_behind h (Gave.added (Change.entry e)) rest = append_assoc h.entries (e �
 entry_behind h (Gave.added Change.marked) rest = refl
 entry_behind h (Gave.faulted change) rest = refl
 
-pub entries_behind : (h : History) (xs : List Gave) → (history_behind h xs).entries ≡ h.entries ++ entries_given xs
+pub entries_behind : (h : History) (xs : List Gave) → (history_after h xs).entries ≡ h.entries ++ entries_given xs
 entries_behind h [] = sym (append-nil h.entries)
 entries_behind h (x ∷ xs) = entries_behind (with_given h x) xs ∙ entry_behind h x (entries_given xs)
 
@@ -74,11 +74,11 @@ edition_with h (Gave.added (Change.entry e)) = follows_itself h.edition
 edition_with h (Gave.added Change.marked) = two_follows h.edition
 edition_with h (Gave.faulted change) = follows_itself h.edition
 
-edition_behind : (h : History) (xs : List Gave) → MayFollow h.edition (history_behind h xs).edition
+edition_behind : (h : History) (xs : List Gave) → MayFollow h.edition (history_after h xs).edition
 edition_behind h [] = follows_itself h.edition
-edition_behind h (x ∷ xs) = follows_both h.edition (with_given h x).edition (history_behind (with_given h x) xs).edition (edition_with h x) (edition_behind (with_given h x) xs)
+edition_behind h (x ∷ xs) = follows_both h.edition (with_given h x).edition (history_after (with_given h x) xs).edition (edition_with h x) (edition_behind (with_given h x) xs)
 
-pub follows_given : (h : History) (xs : List Gave) → Follows h (history_behind h xs)
+pub follows_given : (h : History) (xs : List Gave) → Follows h (history_after h xs)
 follows_given h xs = record { entries = entries_given xs; behind = entries_behind h xs; edition = edition_behind h xs }
 
 pub follows_self : (h : History) → Follows h h
@@ -102,26 +102,26 @@ longer may xs ys held file h c front =
       more = front.more;
       rest = front.rest ++ ys;
       are = ap (λ (l : List Gave). l ++ ys) front.are ∙ append_assoc so front.rest ys;
-      left = leaves_less file (history_behind h so) (λ change. MayPend may so change ⊎ GivesNext front.rest change) (λ change. MayPend may so change ⊎ GivesNext (front.rest ++ ys) change)
+      left = leaves_less file (history_after h so) (λ change. MayPend may so change ⊎ GivesNext front.rest change) (λ change. MayPend may so change ⊎ GivesNext (front.rest ++ ys) change)
           (λ change is. ⊎_elim (λ was. inl was) (λ next. inr (next_longer front.rest ys change next)) is) c front.left;
     }
 
 -- with more before it
-pub sooner : (may : Change → Type 0) (xs ys held : List Gave) (file : List ℕ) (h : History) (c : List ℕ) → IsFront (MayPend may xs) ys held file (history_behind h xs) c → IsFront may (xs ++ ys) (xs ++ held) file h c
+pub sooner : (may : Change → Type 0) (xs ys held : List Gave) (file : List ℕ) (h : History) (c : List ℕ) → IsFront (MayPend may xs) ys held file (history_after h xs) c → IsFront may (xs ++ ys) (xs ++ held) file h c
 sooner may xs ys held file h c front =
     let so = held ++ front.more in
     let rest = front.rest in
-    let mid = history_behind h xs in
-    let less : Leaves file (history_behind mid so) (λ change. MayPend may (xs ++ so) change ⊎ GivesNext rest change) c =
-    leaves_less file (history_behind mid so) (λ change. MayPend (MayPend may xs) so change ⊎ GivesNext rest change) (λ change. MayPend may (xs ++ so) change ⊎ GivesNext rest change)
+    let mid = history_after h xs in
+    let less : Leaves file (history_after mid so) (λ change. MayPend may (xs ++ so) change ⊎ GivesNext rest change) c =
+    leaves_less file (history_after mid so) (λ change. MayPend (MayPend may xs) so change ⊎ GivesNext rest change) (λ change. MayPend may (xs ++ so) change ⊎ GivesNext rest change)
     (λ change is. ⊎_elim (λ was. inl (pends_append may xs so change was)) (λ next. inr next) is) c front.left in
-    let all : Leaves file (history_behind h (xs ++ so)) (λ change. MayPend may (xs ++ so) change ⊎ GivesNext rest change) c =
+    let all : Leaves file (history_after h (xs ++ so)) (λ change. MayPend may (xs ++ so) change ⊎ GivesNext rest change) c =
     subst (λ (g : History). Leaves file g (λ change. MayPend may (xs ++ so) change ⊎ GivesNext rest change) c) (sym (behind_append h xs so)) less in
     record {
       more = front.more;
       rest = rest;
       are = ap (λ (l : List Gave). xs ++ l) front.are ∙ sym (append_assoc xs so rest) ∙ ap (λ (l : List Gave). l ++ rest) (sym (append_assoc xs held front.more));
-      left = subst (λ (l : List Gave). Leaves file (history_behind h l) (λ change. MayPend may l change ⊎ GivesNext rest change) c) (sym (append_assoc xs held front.more)) all;
+      left = subst (λ (l : List Gave). Leaves file (history_after h l) (λ change. MayPend may l change ⊎ GivesNext rest change) c) (sym (append_assoc xs held front.more)) all;
     }
 
 -- one that holds more holds less
@@ -132,7 +132,7 @@ holding_less may given held more file h c front =
       more = more ++ front.more;
       rest = rest;
       are = front.are ∙ ap (λ (l : List Gave). l ++ rest) (append_assoc held more front.more);
-      left = subst (λ (l : List Gave). Leaves file (history_behind h l) (λ change. MayPend may l change ⊎ GivesNext rest change) c) (append_assoc held more front.more) front.left;
+      left = subst (λ (l : List Gave). Leaves file (history_after h l) (λ change. MayPend may l change ⊎ GivesNext rest change) c) (append_assoc held more front.more) front.left;
     }
 
 -- where more may have been pending before
@@ -143,6 +143,6 @@ front_weaker may more given held file h c f front =
       more = front.more;
       rest = front.rest;
       are = front.are;
-      left = leaves_less file (history_behind h so) (λ change. MayPend may so change ⊎ GivesNext front.rest change) (λ change. MayPend more so change ⊎ GivesNext front.rest change)
+      left = leaves_less file (history_after h so) (λ change. MayPend may so change ⊎ GivesNext front.rest change) (λ change. MayPend more so change ⊎ GivesNext front.rest change)
           (λ change is. ⊎_elim (λ was. inl (pends_weaker may more so f change was)) (λ next. inr next) is) c front.left;
     }

@@ -10,14 +10,14 @@ use Rattle.office_core.specs.Histories.{Entered}
 use Rattle.office_core.specs.declared.made.Made.{Made}
 
 -- the text of a product behind a line feed
-abbrev pub text_behind : Option Made → List ℕ
-text_behind None = []
-text_behind (Some made) = 10 ∷ made.sent.text
+abbrev pub text_after_line_feed : Option Made → List ℕ
+text_after_line_feed None = []
+text_after_line_feed (Some made) = 10 ∷ made.sent.text
 
 -- only an entry of edition Two carries the text of its product
 abbrev pub carried : Edition → Option Made → List ℕ
 carried One made = []
-carried Two made = text_behind made
+carried Two made = text_after_line_feed made
 
 abbrev pub asked_by : Entry → Asked
 asked_by e = record { desk = e.desk; seq = e.seq; request = e.request }

@@ -22,9 +22,9 @@ with_given h Gave.nothing = h
 with_given h (Gave.added change) = changed h change
 with_given h (Gave.faulted change) = h
 
-abbrev pub history_behind : History → List Gave → History
-history_behind h [] = h
-history_behind h (g ∷ given) = history_behind (with_given h g) given
+abbrev pub history_after : History → List Gave → History
+history_after h [] = h
+history_after h (g ∷ given) = history_after (with_given h g) given
 
 -- an entry that was added, before others
 abbrev pub with_entry : Gave → List Entered → List Entered
@@ -58,4 +58,4 @@ pub record IsFront (may : Change → Type 0) (given held : List Gave) (file : Li
   pub more : List Gave
   pub rest : List Gave
   pub are : given ≡ (held ++ more) ++ rest
-  pub left : Leaves file (history_behind h (held ++ more)) (λ change. MayPend may (held ++ more) change ⊎ GivesNext rest change) c
+  pub left : Leaves file (history_after h (held ++ more)) (λ change. MayPend may (held ++ more) change ⊎ GivesNext rest change) c

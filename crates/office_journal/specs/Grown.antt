@@ -8,7 +8,7 @@ use Rattle.office_core.specs.Agreement.{ReadsAsTheBoard}
 use Rattle.office_core.specs.Histories.{Entered, MayFollow, StandOnce, entries_of}
 use Rattle.office_core.specs.State.{State}
 use Rattle.office_journal.specs.Changes.{Change, Leaves}
-use Rattle.office_journal.specs.Given.{Gave, IsFront, MayPend, history_behind}
+use Rattle.office_journal.specs.Given.{Gave, IsFront, MayPend, history_after}
 use Rattle.office_journal.specs.Histories.{History, ImageOf, IsHistory}
 
 -- a later history begins with the earlier one
@@ -38,11 +38,11 @@ pub record KeepsHistory {D : Type 0} (d : Disks D) (disk opened next : D) (bytes
   -- the file that was found is an image of the first history
   pub found : ImageOf bytes file h
   -- the one behind what was given is a legal history, which leads to this state
-  pub legal : IsHistory file (history_behind h given) s
+  pub legal : IsHistory file (history_after h given) s
   -- it begins with the first
-  pub follows : Follows h (history_behind h given)
+  pub follows : Follows h (history_after h given)
   -- each request stands in it once
-  pub once : StandOnce (entries_of (history_behind h given).entries)
+  pub once : StandOnce (entries_of (history_after h given).entries)
   -- someone who has the texts alone finds lawful lives, numbers from 1 without gaps, and the rows of the board
   pub reads : ReadsAsTheBoard s
   -- At most one change more is in the file: one under which the disk failed, since a change was last added.
@@ -52,9 +52,9 @@ pub record KeepsHistory {D : Type 0} (d : Disks D) (disk opened next : D) (bytes
   -- a read gives an image of the last history, or of it with that change
   pub now : List ℕ
   pub told : d.seen next ≡ Some now
-  pub image : Leaves file (history_behind h given) (λ change. pending ≡ Some change) now
+  pub image : Leaves file (history_after h given) (λ change. pending ≡ Some change) now
   -- and so does a crash now
-  pub left : (c : List ℕ) → (d.crash next).may_leave c → Leaves file (history_behind h given) (λ change. pending ≡ Some change) c
+  pub left : (c : List ℕ) → (d.crash next).may_leave c → Leaves file (history_after h given) (λ change. pending ≡ Some change) c
   -- A crash at any moment since the start leaves what one at the start might have left, or a front of the last history that holds the first, with at most one change behind it, which was given there.
   pub crashes : LeavesOnly (d.crash disk) (d.crash next) (λ c. (d.crash disk).may_leave c ⊎ IsFront NonePends given [] file h c)
   -- Since the first sync that answered while the office was opened it leaves such a front alone.

@@ -95,9 +95,9 @@ module _ {D : Type 0} {d : _} (seen : D → Option (List ℕ)) (crash : D → Cr
   Names OutOfMemory told = told ≡ None
 
 -- what was prepared, beside an answer that accepts and beside a disk fault
-abbrev pub StandsBeside : Answer → Readied → Option Readied → Type 0
-StandsBeside (Accepted text) p told = told ≡ Some p
-StandsBeside (Repeated text) p told = told ≡ None
-StandsBeside (Refused x) p told = told ≡ None
-StandsBeside DiskFault p told = told ≡ Some p
-StandsBeside OutOfMemory p told = told ≡ None
+abbrev pub ComesWith : Answer → Readied → Option Readied → Type 0
+ComesWith (Accepted text) p told = told ≡ Some p
+ComesWith (Repeated text) p told = told ≡ None
+ComesWith (Refused x) p told = told ≡ None
+ComesWith DiskFault p told = told ≡ Some p
+ComesWith OutOfMemory p told = told ≡ None

@@ -12,7 +12,7 @@ ghost use Rattle.office_core.specs.Step.{Refuses, Repeats, entry_of};
 ghost use Rattle.office_journal.specs.Changes.{Change, Leaves, body_of, changed};
 ghost use Rattle.office_journal.specs.Histories.{History};
 ghost use Rattle.office_journal.specs.Kept.{Holds, disk_of, gate_of, state_of};
-ghost use Rattle.office_journal.specs.Outcomes.{Becomes, IsAgain, IsUnkept, Names, StandsBeside};
+ghost use Rattle.office_journal.specs.Outcomes.{Becomes, IsAgain, IsUnkept, Names, ComesWith};
 ghost use Rattle.office_journal.specs.Submitting.{IsAsked, IsOffered, MayEnter, entered};
 
 use crate::answers::Answer;
@@ -61,7 +61,7 @@ impl KeptReply {
 /// Returns an answer, and with an acceptance or a disk fault also what was prepared.
 fn with_prepared(answer: Answer, p: Snapshot<Prepared>) -> (Answer, Option<Snapshot<Prepared>>)
     ensures answer { result.0 ≡ answer }
-    ensures told { StandsBeside answer p.value (option_map (λ told. told.value) result.1) }
+    ensures told { ComesWith answer p.value (option_map (λ told. told.value) result.1) }
 {
     match answer {
         Answer::Accepted(text) => (Answer::Accepted(text), Some(p)),

@@ -7,13 +7,13 @@ use Rattle.desk_traits.specs.declared.disk.Disk.{Ghosts as Disks}
 use Rattle.desk_traits.proofs.Moments.{both, nothing, weaker}
 use Rattle.office_core.specs.State.{State}
 use Rattle.office_journal.specs.Changes.{Change, Leaves}
-use Rattle.office_journal.specs.Given.{Gave, IsFront, MayPend, history_behind}
+use Rattle.office_journal.specs.Given.{Gave, IsFront, MayPend, history_after}
 use Rattle.office_journal.specs.Grown.{StaysSince, Stood}
 use Rattle.office_journal.specs.Histories.{History}
 use Rattle.office_journal.specs.Kept.{HasHistory, Holds, disk_of, gate_of, state_of}
 use Rattle.office_journal.specs.declared.kept.KeptOffice.{KeptOffice}
 use Rattle.office_journal.proofs.Fronts.{at_start, behind_append, front_weaker, holding_less, longer, pends_append, pends_weaker, sooner}
-use Rattle.office_turns.specs.Happenings.{entries_in, gate_behind, gave_of, given_by, state_behind, stood_by}
+use Rattle.office_turns.specs.Happenings.{entries_in, gate_after, gave_of, given_by, state_behind, stood_by}
 use Rattle.office_turns.specs.Since.{AreEntriesAt, IsHeld, IsSince}
 use Rattle.office_turns.specs.declared.happening.Happening.{Happening}
 use Rattle.office_turns.specs.declared.happening.Happening.TheVariants.{Entry, Fault}
@@ -69,14 +69,14 @@ module _ {D : Type 0} (d : Disks D)
 
   -- what was answered before stays, and so does what is answered since
   module _ (mid kept : D) (may now : Change → Type 0) (xs ys : List Gave) (file : List ℕ) (h : History) (pend : (change : Change) → now change → MayPend may xs change) where
-    front_since : (held : List Gave) (c : List ℕ) → IsFront now ys held file (history_behind h xs) c → IsFront may (xs ++ ys) (xs ++ held) file h c
-    front_since held c front = sooner may xs ys held file h c (front_weaker now (MayPend may xs) ys held file (history_behind h xs) c pend front)
+    front_since : (held : List Gave) (c : List ℕ) → IsFront now ys held file (history_after h xs) c → IsFront may (xs ++ ys) (xs ++ held) file h c
+    front_since held c front = sooner may xs ys held file h c (front_weaker now (MayPend may xs) ys held file (history_after h xs) c pend front)
 
     -- one that holds all that was given before
     holds_before : (held more : List Gave) (c : List ℕ) → xs ≡ held ++ more → IsFront may (xs ++ ys) (xs ++ []) file h c → IsFront may (xs ++ ys) held file h c
     holds_before held more c are front = holding_less may (xs ++ ys) held more file h c (subst (λ (l : List Gave). IsFront may (xs ++ ys) l file h c) (append-nil xs ∙ are) front)
 
-    stays_on : LeavesOnly (d.crash mid) (d.crash kept) (IsFront now ys [] file (history_behind h xs)) → (stood : Stood D) → StaysSince d stood mid may xs file h → StaysSince d stood kept may (xs ++ ys) file h
+    stays_on : LeavesOnly (d.crash mid) (d.crash kept) (IsFront now ys [] file (history_after h xs)) → (stood : Stood D) → StaysSince d stood mid may xs file h → StaysSince d stood kept may (xs ++ ys) file h
     stays_on run stood stays = record {
       more = stays.more ++ ys;
       are = ap (λ (l : List Gave). l ++ ys) stays.are ∙ append_assoc stood.held stays.more ys;
@@ -87,7 +87,7 @@ module _ {D : Type 0} (d : Disks D)
           (run.joins (d.crash stood.disk).moment c stays.later left);
     }
 
-    stays_behind : (held : List Gave) (disk : D) → StaysSince d (record { held = held; disk = disk }) kept now ys file (history_behind h xs) → StaysSince d (record { held = xs ++ held; disk = disk }) kept may (xs ++ ys) file h
+    stays_behind : (held : List Gave) (disk : D) → StaysSince d (record { held = held; disk = disk }) kept now ys file (history_after h xs) → StaysSince d (record { held = xs ++ held; disk = disk }) kept may (xs ++ ys) file h
     stays_behind held disk stays = record {
       more = stays.more;
       are = ap (λ (l : List Gave). xs ++ l) stays.are ∙ sym (append_assoc xs held stays.more);
@@ -95,10 +95,10 @@ module _ {D : Type 0} (d : Disks D)
       leaves = λ c left. front_since held c (stays.leaves c left);
     }
 
-    all_behind : (held : List Gave) (zs : List (Happening D d)) → All (λ stood. StaysSince d stood kept now ys file (history_behind h xs)) (stood_by held zs) → All (λ stood. StaysSince d stood kept may (xs ++ ys) file h) (stood_by (xs ++ held) zs)
+    all_behind : (held : List Gave) (zs : List (Happening D d)) → All (λ stood. StaysSince d stood kept now ys file (history_after h xs)) (stood_by held zs) → All (λ stood. StaysSince d stood kept may (xs ++ ys) file h) (stood_by (xs ++ held) zs)
     all_behind held [] stay = All-nil (λ stood. StaysSince d stood kept may (xs ++ ys) file h)
     all_behind held (Entry p x ∷ zs) stay =
-        let P : Stood D → Type 0 = λ stood. StaysSince d stood kept now ys file (history_behind h xs) in
+        let P : Stood D → Type 0 = λ stood. StaysSince d stood kept now ys file (history_after h xs) in
         let Q : Stood D → Type 0 = λ stood. StaysSince d stood kept may (xs ++ ys) file h in
         let one = gave_of (Entry p x) ∷ [] in
         let rest = stood_by (held ++ one) zs in
@@ -113,16 +113,16 @@ module _ {D : Type 0} (d : Disks D)
 
   module _ (opened mid kept : KeptOffice D d) (xs ys : List (Happening D d)) where
     -- the history with the first entries and then the others
-    whole : (h : History) → history_behind (history_behind h (given_by xs)) (given_by ys) ≡ history_behind h (given_by (xs ++ ys))
-    whole h = sym (behind_append h (given_by xs) (given_by ys)) ∙ ap (history_behind h) (sym (given_append xs ys))
+    whole : (h : History) → history_after (history_after h (given_by xs)) (given_by ys) ≡ history_after h (given_by (xs ++ ys))
+    whole h = sym (behind_append h (given_by xs) (given_by ys)) ∙ ap (history_after h) (sym (given_append xs ys))
 
-    held_on : (file : List ℕ) (h : History) (was : Option Change) → (first : IsHeld d opened mid file h xs was) → IsHeld d mid kept file (history_behind h (given_by xs)) ys first.pending → IsHeld d opened kept file h (xs ++ ys) was
+    held_on : (file : List ℕ) (h : History) (was : Option Change) → (first : IsHeld d opened mid file h xs was) → IsHeld d mid kept file (history_after h (given_by xs)) ys first.pending → IsHeld d opened kept file h (xs ++ ys) was
     held_on file h was first since =
         let may = Was was in
         let now = Was first.pending in
         let G = given_by xs in
         let H = given_by ys in
-        let between = history_behind h G in
+        let between = history_after h G in
         let pend = said_of (MayPend may G) first.pending first.which in
         let Q : Stood D → Type 0 = λ stood. StaysSince d stood (disk_of kept) may (G ++ H) file h in
         let run = both d.crash are_crashes (disk_of opened) (disk_of mid) (disk_of kept) (IsFront may G [] file h) (IsFront may (G ++ H) [] file h) first.crashes
@@ -145,10 +145,10 @@ module _ {D : Type 0} (d : Disks D)
     pub since_both : IsSince d opened mid xs → IsSince d mid kept ys → IsSince d opened kept (xs ++ ys)
     since_both first since = record {
       state = since.state ∙ (ap (λ (s : State). state_behind s (entries_in ys)) first.state ∙ (sym (state_append (state_of opened) (entries_in xs) (entries_in ys)) ∙ ap (state_behind (state_of opened)) (sym (entries_append xs ys))));
-      gate = since.gate ∙ (ap (λ (n : ℕ). gate_behind n (entries_in ys)) first.gate ∙ (sym (gate_append (gate_of opened) (entries_in xs) (entries_in ys)) ∙ ap (gate_behind (gate_of opened)) (sym (entries_append xs ys))));
+      gate = since.gate ∙ (ap (λ (n : ℕ). gate_after n (entries_in ys)) first.gate ∙ (sym (gate_append (gate_of opened) (entries_in xs) (entries_in ys)) ∙ ap (gate_after (gate_of opened)) (sym (entries_append xs ys))));
       entries = (let a = first.entries in let b = since.entries in let e = ap length (entries_append xs ys) in let l = length-append (entries_in xs) (entries_in ys) in omega arith);
       lawful = lawful_append (state_of opened) xs ys first.lawful (subst (λ (s : State). AreEntriesAt s ys) first.state since.lawful);
-      legal = λ file h has. subst (λ (g : History). HasHistory kept file g) (whole h) (since.legal file (history_behind h (given_by xs)) (first.legal file h has));
+      legal = λ file h has. subst (λ (g : History). HasHistory kept file g) (whole h) (since.legal file (history_after h (given_by xs)) (first.legal file h has));
       reads = λ reads. since.reads (first.reads reads);
       later = (let a = first.later in let b = since.later in omega arith);
       counted = (let a = first.counted in let b = since.counted in let f = faults_append xs ys in omega arith);
@@ -157,5 +157,5 @@ module _ {D : Type 0} (d : Disks D)
           let b = since.steady (omega (arith, none, f)) in b ∙ a);
       held = λ file h was holds.
           let one = first.held file h was holds in
-          held_on file h was one (since.held file (history_behind h (given_by xs)) one.pending one.holds);
+          held_on file h was one (since.held file (history_after h (given_by xs)) one.pending one.holds);
     }

@@ -12,7 +12,7 @@ use Rattle.office_journal.specs.Given.{Gave, MayPend, entries_given, pends_after
 use Rattle.office_journal.specs.Grown.{NonePends, Stood}
 use Rattle.office_journal.specs.Kept.{disk_of}
 use Rattle.office_journal.proofs.Fronts.{entries_given_append}
-use Rattle.office_turns.specs.Happenings.{entries_in, faults_in, gate_behind, gave_of, given_by, state_behind, stood_by}
+use Rattle.office_turns.specs.Happenings.{entries_in, faults_in, gate_after, gave_of, given_by, state_behind, stood_by}
 use Rattle.office_turns.specs.Since.{AreEntriesAt}
 use Rattle.office_turns.specs.declared.happening.Happening.{Happening}
 use Rattle.office_turns.specs.declared.happening.Happening.TheVariants.{Entry, Fault}
@@ -21,7 +21,7 @@ pub state_append : (s : State) (xs ys : List Entered) → state_behind s (xs ++ 
 state_append s [] ys = refl
 state_append s (x ∷ xs) ys = state_append (state_after s x.entry x.made) xs ys
 
-pub gate_append : (gate : ℕ) (xs ys : List Entered) → gate_behind gate (xs ++ ys) ≡ gate_behind (gate_behind gate xs) ys
+pub gate_append : (gate : ℕ) (xs ys : List Entered) → gate_after gate (xs ++ ys) ≡ gate_after (gate_after gate xs) ys
 gate_append gate [] ys = refl
 gate_append gate (x ∷ xs) ys = gate_append (gate + (5 + length (entry_body x))) xs ys
 

@@ -46,9 +46,9 @@ state_behind s [] = s
 state_behind s (x ∷ entries) = state_behind (state_after s x.entry x.made) entries
 
 -- the place of the last gate behind the records of these entries
-abbrev pub gate_behind : ℕ → List Entered → ℕ
-gate_behind gate [] = gate
-gate_behind gate (x ∷ entries) = gate_behind (gate + (5 + length (entry_body x))) entries
+abbrev pub gate_after : ℕ → List Entered → ℕ
+gate_after gate [] = gate
+gate_after gate (x ∷ entries) = gate_after (gate + (5 + length (entry_body x))) entries
 
 module _ {D : Type 0} {d : _} (opened : KeptOffice D d) (happenings : List (Happening D d)) where
   -- the state of an office that was opened so, after what has happened since
@@ -57,4 +57,4 @@ module _ {D : Type 0} {d : _} (opened : KeptOffice D d) (happenings : List (Happ
 
   -- and the place of its journal's last gate
   abbrev pub gate_at : ℕ
-  gate_at = gate_behind (gate_of opened) (entries_in happenings)
+  gate_at = gate_after (gate_of opened) (entries_in happenings)

@@ -8,7 +8,7 @@ use Rattle.office_core.specs.Histories.{Entered}
 use Rattle.office_core.specs.State.{State}
 use Rattle.office_core.specs.Step.{state_after}
 use Rattle.office_journal.specs.Changes.{Change}
-use Rattle.office_journal.specs.Given.{IsFront, MayPend, history_behind}
+use Rattle.office_journal.specs.Given.{IsFront, MayPend, history_after}
 use Rattle.office_journal.specs.Grown.{StaysSince}
 use Rattle.office_journal.specs.Histories.{History}
 use Rattle.office_journal.specs.Kept.{HasHistory, Holds, disk_of, entries_of, gate_of, state_of}
@@ -36,7 +36,7 @@ module _ {D : Type 0} (d : Disks D) (opened kept : KeptOffice D d) where
   -- The history that the journal held at the opening, with this change pending, has grown by what has happened; and what was answered stays.
   pub record IsHeld (file : List ℕ) (h : History) (happenings : List (Happening D d)) (was : Option Change) : Type 0 where
     pub pending : Option Change
-    pub holds : Holds d.seen d.crash kept file (history_behind h (given_by happenings)) pending
+    pub holds : Holds d.seen d.crash kept file (history_after h (given_by happenings)) pending
     pub which : IfSome pending (MayPend (λ change. was ≡ Some change) (given_by happenings))
     -- a crash at any moment since leaves a front of it that holds the first, with at most one change behind it, which was given there
     pub crashes : LeavesOnly (d.crash (disk_of opened)) (d.crash (disk_of kept)) (IsFront (λ change. was ≡ Some change) (given_by happenings) [] file h)
@@ -49,7 +49,7 @@ module _ {D : Type 0} (d : Disks D) (opened kept : KeptOffice D d) where
     pub entries : entries_of kept ≡ entries_of opened + length (entries_in happenings)
     pub lawful : AreEntriesAt (state_of opened) happenings
     -- whatever the disk tells, the history has grown by the entries
-    pub legal : (file : List ℕ) (h : History) → HasHistory opened file h → HasHistory kept file (history_behind h (given_by happenings))
+    pub legal : (file : List ℕ) (h : History) → HasHistory opened file h → HasHistory kept file (history_after h (given_by happenings))
     pub reads : ReadsAsTheBoard (state_of opened) → ReadsAsTheBoard (state_of kept)
     -- the disk's count of faults has risen by those that happened, and by them alone
     pub later : d.faults (disk_of opened) ≤ d.faults (disk_of kept)

@@ -16,7 +16,7 @@ use Rattle.row_index.specs.declared.verdicts.Part.{Part}
 use Rattle.row_index.specs.Verdicts.{lines_in as lines_in_parts, said_at, said_along, said_in}
 use Rattle.product_decoder.specs.Decoded.{pair_of, decoded_of}
 use Rattle.product_decoder.specs.FrameLines.{is_pair_by, event_pair, event_pairs, line_in, lines_in, lines_in_segments}
-use Rattle.product_decoder.specs.ReaderModel.{is_by, is_vtec_by, line_said, said_by}
+use Rattle.product_decoder.specs.ReaderModel.{is_by, is_vtec_by, zone_line_of_pair, said_by}
 use Rattle.product_decoder.specs.declared.frame_lines.EventPair.{EventPair}
 use Rattle.product_decoder.specs.declared.types.ZonePair.{ZonePair}
 
@@ -25,8 +25,8 @@ module _ (office : List ℕ) (class : Class) (rows : List Row) (t : ℕ) where
   abbrev told : List ZoneLine → List Line
   told said = lines_of rows t (said_by office class (map pair_of said))
 
-  told_first : (by : Bool) (s : ZoneLine) (kept more : List ZonePair) (later : List Line) → lines_of rows t (map line_said kept) ≡ lines_of rows t (map line_said more) ++ later
-      → lines_of rows t (map line_said (cond by (pair_of s ∷ kept) kept)) ≡ lines_of rows t (map line_said (cond by (pair_of s ∷ more) more)) ++ later
+  told_first : (by : Bool) (s : ZoneLine) (kept more : List ZonePair) (later : List Line) → lines_of rows t (map zone_line_of_pair kept) ≡ lines_of rows t (map zone_line_of_pair more) ++ later
+      → lines_of rows t (map zone_line_of_pair (cond by (pair_of s ∷ kept) kept)) ≡ lines_of rows t (map zone_line_of_pair (cond by (pair_of s ∷ more) more)) ++ later
   told_first true s kept more later h = ap (λ (lines : List Line). line_of rows t s ∷ lines) h
   told_first false s kept more later h = h
 
@@ -34,8 +34,8 @@ module _ (office : List ℕ) (class : Class) (rows : List Row) (t : ℕ) where
   told_append [] b = refl
   told_append (s ∷ a) b = told_first (is_vtec_by office class s.vtec) s (filter (is_by office class) (map pair_of (a ++ b))) (filter (is_by office class) (map pair_of a)) (told b) (told_append a b)
 
-  zone_first : (by : Bool) (z : Place) (p : Pair) (kept : List ZonePair) (pairs : List Pair) → lines_of rows t (map line_said kept) ≡ map (line_in z) (map (event_pair rows t) pairs)
-      → lines_of rows t (map line_said (cond by (pair_of (record { zone = z; vtec = p.vtec; flood = p.flood }) ∷ kept) kept)) ≡ map (line_in z) (map (event_pair rows t) (cond by (p ∷ pairs) pairs))
+  zone_first : (by : Bool) (z : Place) (p : Pair) (kept : List ZonePair) (pairs : List Pair) → lines_of rows t (map zone_line_of_pair kept) ≡ map (line_in z) (map (event_pair rows t) pairs)
+      → lines_of rows t (map zone_line_of_pair (cond by (pair_of (record { zone = z; vtec = p.vtec; flood = p.flood }) ∷ kept) kept)) ≡ map (line_in z) (map (event_pair rows t) (cond by (p ∷ pairs) pairs))
   zone_first true z p kept pairs h = ap (λ (lines : List Line). line_in z (event_pair rows t p) ∷ lines) h
   zone_first false z p kept pairs h = h
 

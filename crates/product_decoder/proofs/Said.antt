@@ -21,7 +21,7 @@ use Rattle.event_life.specs.Products.{later_event, going_in, event_of_issue, is_
 use Rattle.product_decoder.specs.Runs.{Taken}
 use Rattle.product_decoder.specs.declared.types.Decoded.{Decoded}
 use Rattle.product_decoder.specs.declared.types.ZonePair.{ZonePair}
-use Rattle.product_decoder.specs.ReaderModel.{is_by, line_said, said_by, product_of}
+use Rattle.product_decoder.specs.ReaderModel.{is_by, zone_line_of_pair, said_by, product_of}
 use Rattle.product_decoder.specs.Takings.{minute_of, said_in, product_taken, product_judged}
 
 -- the event of a line has the hazard and number of its text
@@ -73,7 +73,7 @@ end_back None = refl
 end_back (Some m) = refl
 
 module _ (office : List ℕ) (class : Class) where
-  line_back : (rows : List Row) (t : ℕ) (pair : ZonePair) → is_by office class pair ≡ true → said_in office class (line_of rows t (line_said pair)) ≡ line_said pair
+  line_back : (rows : List Row) (t : ℕ) (pair : ZonePair) → is_by office class pair ≡ true → said_in office class (line_of rows t (zone_line_of_pair pair)) ≡ zone_line_of_pair pair
   line_back rows t pair by =
       let p = and_parts (bytes_eq pair.vtec.office office) _ by in
       let office_is = (bytes_eq-Decides pair.vtec.office office).0 p.0 in
@@ -93,7 +93,7 @@ module _ (office : List ℕ) (class : Class) where
   lines_back rows t (pair ∷ pairs) = by_case (is_by office class pair) refl (lines_back rows t pairs)
     where
       by_case : (b : Bool) → is_by office class pair ≡ b → map (said_in office class) (lines_of rows t (said_by office class pairs)) ≡ said_by office class pairs
-          → map (said_in office class) (lines_of rows t (map line_said (cond b (pair ∷ filter (is_by office class) pairs) (filter (is_by office class) pairs)))) ≡ map line_said (cond b (pair ∷ filter (is_by office class) pairs) (filter (is_by office class) pairs))
+          → map (said_in office class) (lines_of rows t (map zone_line_of_pair (cond b (pair ∷ filter (is_by office class) pairs) (filter (is_by office class) pairs)))) ≡ map zone_line_of_pair (cond b (pair ∷ filter (is_by office class) pairs) (filter (is_by office class) pairs))
       by_case true by later = let first = line_back rows t pair by in λ i. first i ∷ later i
       by_case false by later = later
 

@@ -33,12 +33,12 @@ is_vtec_by office class vtec = bytes_eq vtec.office office && classes.eq-value.i
 abbrev pub is_by : List ℕ → Class → ZonePair → Bool
 is_by office class pair = bytes_eq pair.vtec.office office && classes.eq-value.it pair.vtec.class class
 
-abbrev pub line_said : ZonePair → ZoneLine
-line_said pair = record { zone = pair.zone; vtec = pair.vtec; flood = pair.flood }
+abbrev pub zone_line_of_pair : ZonePair → ZoneLine
+zone_line_of_pair pair = record { zone = pair.zone; vtec = pair.vtec; flood = pair.flood }
 
 -- those of the lines that are of the office and class, in their order
 abbrev pub said_by : List ℕ → Class → List ZonePair → List ZoneLine
-said_by office class pairs = map line_said (filter (is_by office class) pairs)
+said_by office class pairs = map zone_line_of_pair (filter (is_by office class) pairs)
 
 -- a product, as the reader of an office and class sees it
 abbrev pub product_of : List ℕ → Class → Decoded → Product

@@ -223,7 +223,7 @@ impl Held {
     }
 
     /// Returns the bytes up to the last line, which starts the next product.
-    fn give_front(&mut self, alloc: Global) -> Result<Option<Text>, Oom>
+    fn take_until_last_line(&mut self, alloc: Global) -> Result<Option<Text>, Oom>
         requires holds { HeldIs self.old }
         ensures holds { HeldIs self.new }
         ensures text { IfOk result
@@ -248,7 +248,7 @@ impl Held {
         ensures err { OnErr result (rest_of self.new ≡ rest_of self.old) }
     {
         if is_heading_from(&self.bytes, self.seen) {
-            return self.give_front(alloc);
+            return self.take_until_last_line(alloc);
         }
         self.give_all(alloc)
     }

@@ -4,7 +4,7 @@ ghost use Rattle.std.specs.List.{list_any};
 ghost use Rattle.std.specs.Str.{bytes_eq};
 ghost use Rattle.event_life.specs.Lives.{judged_product};
 ghost use Rattle.event_life.specs.Products.{event_of, end_of, line_of, lines_of};
-ghost use Rattle.product_decoder.specs.ReaderModel.{is_vtec_by, is_by, line_said, said_by, product_of};
+ghost use Rattle.product_decoder.specs.ReaderModel.{is_vtec_by, is_by, zone_line_of_pair, said_by, product_of};
 ghost use Rattle.product_decoder.specs.Runs.{in_breach};
 ghost use Rattle.product_decoder.specs.Takings.{IsKnown, same_named, line_of_event, rows_taken};
 ghost use Rattle.row_index.specs.Verdicts.{has_breach, expand, AreApart, AreFound};
@@ -151,7 +151,7 @@ pub fn end_of(end: &Option<Minute>) -> End
 
 /// Converts a line of a text, given its event.
 fn line_of_event(event: &Event, pair: &ZonePair) -> Line
-    ensures { result ≡ line_of_event event.now (line_said pair.now) }
+    ensures { result ≡ line_of_event event.now (zone_line_of_pair pair.now) }
 {
     Line {
         action: pair.vtec.action,
@@ -167,7 +167,7 @@ fn line_of_event(event: &Event, pair: &ZonePair) -> Line
 /// its event.
 fn line_of(rows: &RowIndex, t: Minute, known: &Option<Known>, pair: &ZonePair) -> Line
     requires { IsKnown rows.now t known.now }
-    ensures { result ≡ line_of rows.now t (line_said pair.now) }
+    ensures { result ≡ line_of rows.now t (zone_line_of_pair pair.now) }
 {
     let event = event_of(rows, t, known, &pair.vtec);
     line_of_event(&event, pair)

@@ -8,7 +8,7 @@ use Rattle.hazard_types.specs.Places.{is_capital}
 use Rattle.desk_clock.specs.LocalForm.{written_in, read_of}
 use Rattle.desk_clock.specs.Words.{first_word}
 use Rattle.hazard_types.specs.Characters.{is_blank as is_word_blank}
-use Rattle.desk_clock.specs.LocalWords.{number_of, parse_time_of_day, words_say, are_letters}
+use Rattle.desk_clock.specs.LocalWords.{number_of, parse_time_of_day, parse_words, are_letters}
 use Rattle.desk_clock.specs.Names.{place_of, weekday_names}
 use Rattle.hazard_types.specs.Characters.{is_blank}
 use Rattle.product_frame.specs.Text.{line_of}
@@ -129,8 +129,8 @@ time_none : (clock half : List ℕ) → is_digit (slice_index clock 0) ≡ false
 unfolding parse_time_of_day
 time_none clock half h = rw (number_none (take (length clock - 2) clock) (first_taken (length clock - 2) clock h)) refl
 
-said_none : (clock half letters weekday month day year : List ℕ) → is_digit (slice_index clock 0) ≡ false → words_say clock half letters weekday month day year ≡ None
-unfolding words_say
+said_none : (clock half letters weekday month day year : List ℕ) → is_digit (slice_index clock 0) ≡ false → parse_words clock half letters weekday month day year ≡ None
+unfolding parse_words
 said_none clock half letters weekday month day year h =
     elim (cases_Bool (are_letters letters && is_some (place_of weekday_names weekday))) [ inl e ↦ rw (e, time_none clock half h) refl | inr e ↦ rw e refl ]
 

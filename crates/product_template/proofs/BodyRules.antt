@@ -16,7 +16,7 @@ use Rattle.office_types.specs.declared.request.Edition.TheVariants.{One, Two}
 use Rattle.office_types.specs.declared.request.EventTexts.{EventTexts}
 use Rattle.office_types.specs.declared.request.Texts.{Texts}
 use Rattle.desk_settings.specs.Forms.{is_zone_name}
-use Rattle.desk_settings.specs.Looking.{name_beside}
+use Rattle.desk_settings.specs.Looking.{name_for_zone}
 use Rattle.desk_settings.specs.declared.settings.Settings.{Settings}
 use Rattle.headline_text.specs.Headlines.{headline_of, when_of}
 use Rattle.headline_text.specs.Lines.{has_word}
@@ -82,7 +82,7 @@ lines_chunk edition z t texts lines h =
     (chunk_each (λ l. bullets edition z t l (texts_on texts l.event)) lines (each_bullets edition z t texts lines h))
 
 pub body_well : (settings : Settings) (class : Class) (texts : List EventTexts) (t : ℕ) (edition : Edition) (s : Segment) → AllByRecursion (λ n. is_zone_name n ≡ true) (values_of settings.zones) → 0 < length s.zones
-    → (is_training class ≡ false → AllByRecursion (λ z. IsSome (name_beside settings.zones z)) s.zones) → AllByRecursion ArePrintable texts → IsBody (body_of settings class texts t edition s)
+    → (is_training class ≡ false → AllByRecursion (λ z. IsSome (name_for_zone settings.zones z)) s.zones) → AllByRecursion ArePrintable texts → IsBody (body_of settings class texts t edition s)
 body_well settings class texts t edition s names some named printable =
     let chunk = lines_chunk edition settings.zone t texts s.lines printable in
     elim (cases_Bool (is_training class)) [

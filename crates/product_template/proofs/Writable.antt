@@ -24,7 +24,7 @@ use Rattle.office_types.specs.declared.request.EventTexts.{EventTexts}
 use Rattle.office_types.specs.declared.request.Plan.{Plan}
 use Rattle.hazard_types.proofs.Years.{day_at_most, civil_ok}
 use Rattle.desk_settings.specs.Forms.{is_heading, is_site, is_office_line, is_line_byte, is_zone_name, begins_with_letter}
-use Rattle.desk_settings.specs.Looking.{category_place, name_beside}
+use Rattle.desk_settings.specs.Looking.{category_place, name_for_zone}
 use Rattle.desk_settings.specs.declared.settings.Settings.{Settings}
 use Rattle.segmenter.specs.Expiry.{leaves_live, lesser, lesser_left, stands_long, expiry_of}
 use Rattle.product_frame.specs.Parts.{is_ttaaii, is_identifier}
@@ -34,7 +34,7 @@ use Rattle.product_frame.specs.Splitting.{IsOneProduct}
 use Rattle.product_frame.proofs.ProductLines.{written_frame, written_one}
 use Rattle.product_frame.proofs.Runs.{all_both}
 use Rattle.product_template.specs.Bodies.{is_training, body_of}
-use Rattle.product_template.specs.Conditions.{CanBeSaid, CanBeSegment, ArePrintable, IsLetter, CanBeText}
+use Rattle.product_template.specs.Conditions.{CanBeWritten, CanBeSegment, ArePrintable, IsLetter, CanBeText}
 use Rattle.product_template.specs.Text.{product_name, corrected, three_letters, pair_of, segment_of, frame_of, block_of, bodies_of, text_of}
 use Rattle.product_template.proofs.BodyRules.{body_well}
 use Rattle.product_template.proofs.Mild.{not_true}
@@ -184,7 +184,7 @@ by_test k m n false x y = y
 expiry_low : (t : ℕ) (lines : List SegLine) → expiry_of t lines ≤ t + 480
 expiry_low t lines = by_test (t + 480) (fold lesser_left (t + 480) lines) (t + 60) (list_any stands_long lines) (all_low (t + 480) (t + 480) lines (omega arith)) (omega arith)
 
-pairs_written : (class : Class) (office : List ℕ) (lines : List SegLine) → is_office office ≡ true → AllByRecursion CanBeSaid lines → AllByRecursion IsPairWritten (map (pair_of class office) lines)
+pairs_written : (class : Class) (office : List ℕ) (lines : List SegLine) → is_office office ≡ true → AllByRecursion CanBeWritten lines → AllByRecursion IsPairWritten (map (pair_of class office) lines)
 pairs_written class office [] is h = tt
 pairs_written class office (l ∷ lines) is h = (record { office = is; number = h.0.number; location = h.0.location }, pairs_written class office lines is h.1)
 
@@ -195,7 +195,7 @@ segment_written class office t s is le h =
       some = h.some;
       sorted = h.order;
       expiry = day_is (expiry_of t s.lines) (omega arith);
-      pairs = All-from_recursion IsPairWritten (map (pair_of class office) s.lines) (pairs_written class office s.lines is (recursion_from_All CanBeSaid s.lines h.lines));
+      pairs = All-from_recursion IsPairWritten (map (pair_of class office) s.lines) (pairs_written class office s.lines is (recursion_from_All CanBeWritten s.lines h.lines));
     }
 
 segments_written : (class : Class) (office : List ℕ) (t : ℕ) (segments : List Segment) → is_office office ≡ true → t ≤ 52000000 → AllByRecursion CanBeSegment segments → AllByRecursion IsSegmentWritten (map (segment_of class office t) segments)
@@ -205,13 +205,13 @@ segments_written class office t (s ∷ segments) is le h = (segment_written clas
 -- ---- the bodies
 
 abbrev HasNames : Settings → Segment → Type 0
-HasNames settings s = All (λ z. IsSome (name_beside settings.zones z)) s.zones
+HasNames settings s = All (λ z. IsSome (name_for_zone settings.zones z)) s.zones
 
 bodies_well : (settings : Settings) (class : Class) (texts : List EventTexts) (t : ℕ) (edition : Edition) (segments : List Segment) → AllByRecursion (λ n. is_zone_name n ≡ true) (values_of settings.zones) → AllByRecursion CanBeSegment segments
     → (is_training class ≡ false → AllByRecursion (HasNames settings) segments) → AllByRecursion ArePrintable texts → AllByRecursion IsBody (map (body_of settings class texts t edition) segments)
 bodies_well settings class texts t edition [] names h named printable = tt
 bodies_well settings class texts t edition (s ∷ segments) names h named printable = (
-  body_well settings class texts t edition s names h.0.some (λ e. recursion_from_All (λ z. IsSome (name_beside settings.zones z)) s.zones (named e).0) printable,
+  body_well settings class texts t edition s names h.0.some (λ e. recursion_from_All (λ z. IsSome (name_for_zone settings.zones z)) s.zones (named e).0) printable,
   bodies_well settings class texts t edition segments names h.1 (λ e. (named e).1) printable,
 )
 

@@ -11,7 +11,7 @@ use Rattle.hazard_types.specs.Calendar.{is_digit}
 use Rattle.hazard_types.specs.Characters.{is_printable}
 use Rattle.hazard_types.specs.Places.{Place, by_place}
 use Rattle.desk_settings.specs.Forms.{is_zone_name, is_line_byte, is_zone_name_byte, begins_with_letter}
-use Rattle.desk_settings.specs.Looking.{name_beside}
+use Rattle.desk_settings.specs.Looking.{name_for_zone}
 use Rattle.headline_text.specs.NameLines.{name_lines}
 use Rattle.headline_text.proofs.NameLaws.{lines_pass, lines_begin}
 use Rattle.product_frame.specs.Text.{line_of}
@@ -42,7 +42,7 @@ name_calm [] h = refl
 name_calm (c ∷ cs) h = let p = and_parts (is_zone_name_byte c) (list_all is_zone_name_byte cs) h in and_from _ _ (byte_calm c p.0) (name_calm cs p.1)
 
 -- the name that stands beside a zone is one of the names
-beside_passes : (P : List ℕ → Bool) → (names : List (Place × List ℕ)) (z : Place) → AllByRecursion (λ n. P n ≡ true) (values_of names) → (name : List ℕ) → name_beside names z ≡ Some name → P name ≡ true
+beside_passes : (P : List ℕ → Bool) → (names : List (Place × List ℕ)) (z : Place) → AllByRecursion (λ n. P n ≡ true) (values_of names) → (name : List ℕ) → name_for_zone names z ≡ Some name → P name ≡ true
 beside_passes P [] z h name e = cc e
 beside_passes P (pair ∷ pairs) z h name e = elim (cases_Bool (is_eq (by_place pair.0 z))) [
   | inl n ↦ (let same : Some pair.1 ≡ Some name = rw n at e in (let one : pair.1 ≡ name = cc same in ap P (sym one) ∙ h.0))
@@ -53,18 +53,18 @@ found : (o : Option (List ℕ)) → IsSome o → (name : List ℕ) × (o ≡ Som
 found (Some name) h = (name, refl)
 found None h = cc h
 
-named : (names : List (Place × List ℕ)) (z : Place) → AllByRecursion (λ n. is_zone_name n ≡ true) (values_of names) → IsSome (name_beside names z) → is_zone_name (unwrap_or (name_beside names z) []) ≡ true
-named names z h is = let f = found (name_beside names z) is in rw f.1 (beside_passes is_zone_name names z h f.0 f.1)
+named : (names : List (Place × List ℕ)) (z : Place) → AllByRecursion (λ n. is_zone_name n ≡ true) (values_of names) → IsSome (name_for_zone names z) → is_zone_name (unwrap_or (name_for_zone names z) []) ≡ true
+named names z h is = let f = found (name_for_zone names z) is in rw f.1 (beside_passes is_zone_name names z h f.0 f.1)
 
 parts : (name : List ℕ) → is_zone_name name ≡ true → (begins_with_letter name ≡ true) × (list_all is_zone_name_byte name ≡ true)
 parts name h =
     let p = and_parts (nat_le (length name) 40 && begins_with_letter name) (list_all is_zone_name_byte name) h in
     ((and_parts (nat_le (length name) 40) (begins_with_letter name) p.0).1, p.1)
 
-pub all_calm : (names : List (Place × List ℕ)) (zones : List Place) → AllByRecursion (λ n. is_zone_name n ≡ true) (values_of names) → AllByRecursion (λ z. IsSome (name_beside names z)) zones
+pub all_calm : (names : List (Place × List ℕ)) (zones : List Place) → AllByRecursion (λ n. is_zone_name n ≡ true) (values_of names) → AllByRecursion (λ z. IsSome (name_for_zone names z)) zones
     → AllByRecursion (λ n. list_all is_calm n ≡ true) (zone_names names zones)
 all_calm names [] h is = tt
-all_calm names (z ∷ zones) h is = (let n = unwrap_or (name_beside names z) [] in name_calm n (parts n (named names z h is.0)).1, all_calm names zones h is.1)
+all_calm names (z ∷ zones) h is = (let n = unwrap_or (name_for_zone names z) [] in name_calm n (parts n (named names z h is.0)).1, all_calm names zones h is.1)
 
 letter_no_slash : (c : ℕ) → is_ascii_alphabetic c ≡ true → (c == 47) ≡ false
 letter_no_slash c h = elim (cases_Bool (c == 47)) [
@@ -82,10 +82,10 @@ first_no_slash (c ∷ cs) names h =
     let t = name_lines ((c ∷ cs) ∷ names) in
     second_none (nat_le 1 (length t)) (slice_index t 0 == 47) (ap (λ (x : ℕ). x == 47) (lines_begin c cs names) ∙ letter_no_slash c h)
 
-pub no_slash : (names : List (Place × List ℕ)) (zones : List Place) → 0 < length zones → AllByRecursion (λ n. is_zone_name n ≡ true) (values_of names) → AllByRecursion (λ z. IsSome (name_beside names z)) zones
+pub no_slash : (names : List (Place × List ℕ)) (zones : List Place) → 0 < length zones → AllByRecursion (λ n. is_zone_name n ≡ true) (values_of names) → AllByRecursion (λ z. IsSome (name_for_zone names z)) zones
     → has_slash (name_lines (zone_names names zones)) ≡ false
 no_slash names [] lt h is = let never : ⊥ = omega arith in absurd never
-no_slash names (z ∷ zones) lt h is = let n = unwrap_or (name_beside names z) [] in first_no_slash n (zone_names names zones) (parts n (named names z h is.0)).0
+no_slash names (z ∷ zones) lt h is = let n = unwrap_or (name_for_zone names z) [] in first_no_slash n (zone_names names zones) (parts n (named names z h is.0)).0
 
 -- ---- lines of calm bytes
 

@@ -13,7 +13,7 @@ use Rattle.office_types.specs.declared.request.Edition.{Edition}
 use Rattle.office_types.specs.declared.request.Edition.TheVariants.{One, Two}
 use Rattle.office_types.specs.declared.request.EventTexts.{EventTexts}
 use Rattle.office_types.specs.declared.request.Texts.{Texts}
-use Rattle.desk_settings.specs.Looking.{name_beside}
+use Rattle.desk_settings.specs.Looking.{name_for_zone}
 use Rattle.desk_settings.specs.declared.settings.Settings.{Settings}
 use Rattle.headline_text.specs.Headlines.{headline_of, when_of}
 use Rattle.headline_text.specs.Lines.{has_word}
@@ -29,7 +29,7 @@ is_training X = false
 
 -- the names of zones, as settings have them
 abbrev pub zone_names : List (Place × List ℕ) → List Place → List (List ℕ)
-zone_names names zones = map (λ z. unwrap_or (name_beside names z) []) zones
+zone_names names zones = map (λ z. unwrap_or (name_for_zone names z) []) zones
 
 -- zones have their names on lines, but in training none
 abbrev pub names_text : Settings → Class → List Place → List ℕ

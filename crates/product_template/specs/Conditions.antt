@@ -12,14 +12,14 @@ use Rattle.hazard_types.specs.declared.line.Segment.{Segment}
 use Rattle.office_types.specs.declared.request.EventTexts.{EventTexts}
 use Rattle.office_types.specs.declared.request.Plan.{Plan}
 use Rattle.desk_settings.specs.AreSettings.{HasForms}
-use Rattle.desk_settings.specs.Looking.{name_beside}
+use Rattle.desk_settings.specs.Looking.{name_for_zone}
 use Rattle.desk_settings.specs.declared.settings.Settings.{Settings}
 use Rattle.headline_text.specs.Headlines.{is_minute}
 use Rattle.product_frame.specs.LineRules.{HasLocation}
 use Rattle.product_template.specs.Bodies.{is_training}
 
 -- a hazard that the desk issues, a number of four digits, a location of its form, and a minute at which an event expires
-pub record CanBeSaid (l : SegLine) : Type 0 where
+pub record CanBeWritten (l : SegLine) : Type 0 where
   pub hazard : IsSome (facts_of l.event.hazard)
   pub number : l.event.etn ≤ 9999
   pub location : HasLocation l.flood
@@ -29,11 +29,11 @@ pub record CanBeSaid (l : SegLine) : Type 0 where
 pub record CanBeSegment (s : Segment) : Type 0 where
   pub some : 0 < length s.zones
   pub order : IsStrictlySortedBy by_place s.zones
-  pub lines : All CanBeSaid s.lines
+  pub lines : All CanBeWritten s.lines
 
 -- each zone has a name
 abbrev pub AreNamed : List (Place × List ℕ) → List Segment → Type 0
-AreNamed names segments = All (λ (s : Segment). All (λ z. IsSome (name_beside names z)) s.zones) segments
+AreNamed names segments = All (λ (s : Segment). All (λ z. IsSome (name_for_zone names z)) s.zones) segments
 
 -- printable bytes alone
 pub record ArePrintable (x : EventTexts) : Type 0 where

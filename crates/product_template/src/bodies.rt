@@ -4,11 +4,11 @@ ghost use Rattle.std.specs.List.{All};
 ghost use Rattle.std.specs.List.Sorted.{IsStrictlySortedBy};
 ghost use Rattle.std.specs.Map.{keys_of};
 ghost use Rattle.hazard_types.specs.Places.{by_place};
-ghost use Rattle.desk_settings.specs.Looking.{name_beside};
+ghost use Rattle.desk_settings.specs.Looking.{name_for_zone};
 ghost use Rattle.product_template.specs.Bodies.{is_training, closed, paragraph, when_text, lines_text, body_of};
 ghost use Rattle.headline_text.specs.Headlines.{headline_of};
 ghost use Rattle.headline_text.specs.Wrapping.{wrapped};
-ghost use Rattle.product_template.specs.Conditions.{CanBeSaid, CanBeSegment, AreNamed};
+ghost use Rattle.product_template.specs.Conditions.{CanBeWritten, CanBeSegment, AreNamed};
 
 use crate::bullets::{put_bullets, put_closed, texts_on};
 use crate::names::names_of;
@@ -31,7 +31,7 @@ fn said_of(
     t: Minute,
     line: &SegLine,
 ) -> Result<LineTexts, Oom>
-    requires { CanBeSaid line.now }
+    requires { CanBeWritten line.now }
     ensures headline { IfOk result (λ said. said.headline ≡ wrapped (headline_of line.now zone t)) }
     ensures when { IfOk result (λ said. paragraph said.when ≡ when_text edition zone t line.now) }
 {
@@ -65,7 +65,7 @@ fn lines_text(
     texts: &[EventTexts],
     lines: &[SegLine],
 ) -> Result<Text, Oom>
-    requires { All CanBeSaid lines.now }
+    requires { All CanBeWritten lines.now }
     ensures { IfOk result (λ text. text ≡ lines_text edition zone t texts.now lines.now) }
 {
     let room = lines.len().saturating_mul(LINE_ROOM);
@@ -97,7 +97,7 @@ fn body_of(
     requires order { IsStrictlySortedBy by_place (keys_of settings.now.zones) }
     requires segment { CanBeSegment segment.now }
     requires named { is_training class ≡ false
-        → All (λ z. IsSome (name_beside settings.now.zones z)) segment.now.zones }
+        → All (λ z. IsSome (name_for_zone settings.now.zones z)) segment.now.zones }
     ensures { IfOk result
         (λ body. body ≡ body_of settings.now class texts.now t edition segment.now) }
 {

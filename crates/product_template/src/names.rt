@@ -4,7 +4,7 @@ ghost use Rattle.std.specs.List.{All};
 ghost use Rattle.std.specs.List.Sorted.{IsStrictlySortedBy};
 ghost use Rattle.std.specs.Map.{keys_of};
 ghost use Rattle.hazard_types.specs.Places.{by_place};
-ghost use Rattle.desk_settings.specs.Looking.{name_beside};
+ghost use Rattle.desk_settings.specs.Looking.{name_for_zone};
 ghost use Rattle.headline_text.specs.NameLines.{name_lines};
 ghost use Rattle.product_template.specs.Bodies.{is_training, zone_names, names_text};
 ghost use Rattle.product_template.specs.Text.{product_name, corrected};
@@ -17,8 +17,8 @@ use std::alloc::Global;
 /// Returns the name of a zone that has one in the settings.
 fn zone_name<'a>(settings: &'a Settings, zone: &Zone) -> &'a [u8]
     requires order { IsStrictlySortedBy by_place (keys_of settings.now.zones) }
-    requires named { IsSome (name_beside settings.now.zones zone.now) }
-    ensures { result.now ≡ unwrap_or (name_beside settings.now.zones zone.now) [] }
+    requires named { IsSome (name_for_zone settings.now.zones zone.now) }
+    ensures { result.now ≡ unwrap_or (name_for_zone settings.now.zones zone.now) [] }
 {
     match settings.zone_name(zone) {
         Some(name) => name.as_slice(),
@@ -29,7 +29,7 @@ fn zone_name<'a>(settings: &'a Settings, zone: &Zone) -> &'a [u8]
 /// Returns the names of zones on lines, each with its hyphen.
 fn zone_lines(alloc: Global, settings: &Settings, zones: &[Zone]) -> Result<Text, Oom>
     requires order { IsStrictlySortedBy by_place (keys_of settings.now.zones) }
-    requires named { All (λ z. IsSome (name_beside settings.now.zones z)) zones.now }
+    requires named { All (λ z. IsSome (name_for_zone settings.now.zones z)) zones.now }
     ensures { IfOk result (λ text. text ≡ name_lines (zone_names settings.now.zones zones.now)) }
 {
     let mut names = Vec::new(alloc);
@@ -54,7 +54,7 @@ pub fn names_of(
 ) -> Result<Text, Oom>
     requires order { IsStrictlySortedBy by_place (keys_of settings.now.zones) }
     requires named { is_training class ≡ false
-        → All (λ z. IsSome (name_beside settings.now.zones z)) zones.now }
+        → All (λ z. IsSome (name_for_zone settings.now.zones z)) zones.now }
     ensures { IfOk result (λ text. text ≡ names_text settings.now class zones.now) }
 {
     match class {

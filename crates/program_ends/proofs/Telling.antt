@@ -6,7 +6,7 @@ use Rattle.byte_streams.specs.Flows.{Adds, Outflow}
 use Rattle.byte_streams.proofs.Pieces.{adds_both}
 use Rattle.program_ends.specs.declared.ends.End.{End}
 use Rattle.program_ends.specs.declared.ends.End.TheVariants.{Usage, SettingsRefused, AlreadyKept, NoJournal, Damaged, ReadFault, WriteFault, DiskFault, PortFault, ClockOut, OutOfMemory, InputTooLong, JournalFull}
-use Rattle.program_ends.specs.Ends.{status_of, is_write_fault, fault_line, write_fault_line, own_line, Begins, RoseTwice, HasWritten, Telling, AddsFront, IsTried}
+use Rattle.program_ends.specs.Ends.{status_of, is_write_fault, fault_line, write_fault_line, own_line, Begins, RoseTwice, HasWritten, Telling, AddsPrefix, IsTried}
 use Rattle.program_ends.proofs.Answering.{adds_none}
 
 -- another end than a write fault has a status and a line of its own
@@ -119,7 +119,7 @@ module _ (begun mid : Outflow) (defined written : List ℕ) where
       }
 
   -- a run whose line was cut by a write fault
-  pub told_cut : (end : End) (half new : Outflow) → is_write_fault end ≡ false → HasWritten defined written begun mid (Some end) → AddsFront mid.taken half.taken (fault_line end) → Rose mid.faults half.faults
+  pub told_cut : (end : End) (half new : Outflow) → is_write_fault end ≡ false → HasWritten defined written begun mid (Some end) → AddsPrefix mid.taken half.taken (fault_line end) → Rose mid.faults half.faults
       → IsTried write_fault_line half new → Telling defined begun new (Some end) 8
   told_cut end half new is has some rose tried =
       let same = has.whole (is_none end is) in
@@ -157,10 +157,10 @@ whole_both (Ok x) taken mid taken' first second a b = adds_both _ _ _ _ _ _ a b 
 whole_both (Err e) taken mid taken' first second a b = tt
 
 -- fronts of a text in two parts
-pub front_first : (taken taken' : Option (List ℕ)) (first second front rest : List ℕ) → Adds taken taken' front → first ≡ front ++ rest → AddsFront taken taken' (first ++ second)
+pub front_first : (taken taken' : Option (List ℕ)) (first second front rest : List ℕ) → Adds taken taken' front → first ≡ front ++ rest → AddsPrefix taken taken' (first ++ second)
 front_first taken taken' first second front rest adds is =
     record { front = front; begins = (rest ++ second, ap (λ (t : List ℕ). t ++ second) is ∙ append_assoc front rest second); adds = adds }
 
-pub front_second : (taken mid taken' : Option (List ℕ)) (first second front rest : List ℕ) → Adds taken mid first → Adds mid taken' front → second ≡ front ++ rest → AddsFront taken taken' (first ++ second)
+pub front_second : (taken mid taken' : Option (List ℕ)) (first second front rest : List ℕ) → Adds taken mid first → Adds mid taken' front → second ≡ front ++ rest → AddsPrefix taken taken' (first ++ second)
 front_second taken mid taken' first second front rest whole adds is =
     record { front = first ++ front; begins = (rest, ap (λ (t : List ℕ). first ++ t) is ∙ sym (append_assoc first front rest)); adds = adds_both _ _ _ _ _ _ whole adds refl }

@@ -25,20 +25,20 @@ is_write_fault WriteFault = true
 is_write_fault _ = false
 
 -- the line of a fault up to its value
-abbrev pub fault_front : End → List ℕ
-fault_front Usage = codes "fault Usage"
-fault_front (SettingsRefused what) = codes "fault SettingsRefused "
-fault_front AlreadyKept = codes "fault AlreadyKept"
-fault_front NoJournal = codes "fault NoJournal"
-fault_front (Damaged at) = codes "fault Damaged "
-fault_front ReadFault = codes "fault ReadFault"
-fault_front WriteFault = codes "fault WriteFault"
-fault_front DiskFault = codes "fault DiskFault"
-fault_front PortFault = codes "fault PortFault"
-fault_front ClockOut = codes "fault ClockOut"
-fault_front OutOfMemory = codes "fault OutOfMemory"
-fault_front InputTooLong = codes "fault InputTooLong"
-fault_front JournalFull = codes "fault JournalFull"
+abbrev pub fault_prefix : End → List ℕ
+fault_prefix Usage = codes "fault Usage"
+fault_prefix (SettingsRefused what) = codes "fault SettingsRefused "
+fault_prefix AlreadyKept = codes "fault AlreadyKept"
+fault_prefix NoJournal = codes "fault NoJournal"
+fault_prefix (Damaged at) = codes "fault Damaged "
+fault_prefix ReadFault = codes "fault ReadFault"
+fault_prefix WriteFault = codes "fault WriteFault"
+fault_prefix DiskFault = codes "fault DiskFault"
+fault_prefix PortFault = codes "fault PortFault"
+fault_prefix ClockOut = codes "fault ClockOut"
+fault_prefix OutOfMemory = codes "fault OutOfMemory"
+fault_prefix InputTooLong = codes "fault InputTooLong"
+fault_prefix JournalFull = codes "fault JournalFull"
 
 -- its value: the settings' fault and its key, or the damaged byte
 abbrev pub fault_value : End → List ℕ
@@ -48,7 +48,7 @@ fault_value _ = []
 
 -- the line of a fault
 abbrev pub fault_line : End → List ℕ
-fault_line end = fault_front end ++ fault_value end ++ codes "\n"
+fault_line end = fault_prefix end ++ fault_value end ++ codes "\n"
 
 abbrev pub write_fault_line : List ℕ
 write_fault_line = fault_line WriteFault
@@ -108,7 +108,7 @@ abbrev pub TellsText : List ℕ → Outflow → Outflow → ℕ → Type 0
 TellsText text before after status = (end : Option End) × ((end ≡ None) ⊎ (end ≡ Some WriteFault)) × Telling text before after end status
 
 -- a front of the text was added
-pub record AddsFront (taken taken' : Option (List ℕ)) (text : List ℕ) : Type 0 where
+pub record AddsPrefix (taken taken' : Option (List ℕ)) (text : List ℕ) : Type 0 where
   pub front : List ℕ
   pub begins : Begins front text
   pub adds : Adds taken taken' front
@@ -124,7 +124,7 @@ pub record IsTried (line : List ℕ) (before after : Outflow) : Type 0 where
 -- a text was added, or a front of it before a fault
 pub record WritesText {E : Type 0} (before after : Outflow) (result : Result (Unit {0}) E) (text : List ℕ) : Type 0 where
   pub whole : OnOk result (Adds before.taken after.taken text)
-  pub front : OnErr result (AddsFront before.taken after.taken text)
+  pub front : OnErr result (AddsPrefix before.taken after.taken text)
   pub cause : HasCause before.faults after.faults result
   pub steady : OnOk result (after.faults ≡ before.faults)
 

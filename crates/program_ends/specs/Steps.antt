@@ -4,7 +4,7 @@ use Rattle.byte_streams.specs.Flows.{Adds, Inflow, IsAtEnd, Outflow, Streams, Ta
 use Rattle.desk_traits.specs.Faults.{HasCause, Rose}
 use Rattle.program_ends.specs.declared.reading.Stop.{Stop}
 use Rattle.program_ends.specs.declared.reading.Stop.TheVariants as stop
-use Rattle.program_ends.specs.Ends.{Begins, AddsFront}
+use Rattle.program_ends.specs.Ends.{Begins, AddsPrefix}
 use Rattle.program_ends.specs.Lines.{Pending, pending_of, lines_from, rest_from}
 use Rattle.program_ends.specs.Runs.{Answered, Breaks, LacksNext, AnswersUntil, end_in}
 
@@ -17,7 +17,7 @@ pub record Replies {A : Type 0} (answers : A → Option (List ℕ) → List ℕ 
 -- Memory lacked for the answer to a line, or a front of the answer was written.
 pub record HaltsAt {A : Type 0} (answers : A → Option (List ℕ) → List ℕ → A → Type 0) (lacks : A → Option (List ℕ) → A → Type 0) (a z : A) (line : Option (List ℕ)) (before after : Outflow) (why : Stop) : Type 0 where
   pub no_memory : why ≡ stop.OutOfMemory → (after.taken ≡ before.taken) × lacks a line z
-  pub write_fault : why ≡ stop.Write → (text : List ℕ) × answers a line text z × AddsFront before.taken after.taken text
+  pub write_fault : why ≡ stop.Write → (text : List ℕ) × answers a line text z × AddsPrefix before.taken after.taken text
   pub reasons : (why ≡ stop.OutOfMemory) ⊎ (why ≡ stop.Write)
 
 -- The lines that end in a chunk were answered, where this had come of the first; and this is what has come of the next one.
@@ -58,7 +58,7 @@ pub record IsCauseOf {T : Type 0} (why : Stop) (before now : ℕ) (result : Resu
   pub steady : (IsErrOf result why → ⊥) → now ≡ before
 
 -- one read of at most so many bytes, into the front of a buffer
-pub record ReadsFront {E : Type 0} (before after : Inflow) (room : ℕ) (result : Result ℕ E) (buffer : List ℕ) : Type 0 where
+pub record ReadsIntoStart {E : Type 0} (before after : Inflow) (room : ℕ) (result : Result ℕ E) (buffer : List ℕ) : Type 0 where
   pub taken : IfOk result (λ count. (count ≤ room) × (count ≤ length buffer) × Takes before.left after.left (take count buffer))
   pub ended : result ≡ Ok 0 → 0 < room → IsAtEnd after.left
   pub failed : OnErr result (after.left ≡ before.left)

@@ -44,7 +44,7 @@ fn write_fault<K: Sink>(output: &mut K, end: &End) -> Result<(), Failed>
 
 // Writes the line `fault WriteFault`, or a prefix of it where this fails too, and returns its
 // status.
-fn tell_write_fault<K: Sink>(output: &mut K) -> u8
+fn write_fault_of_write<K: Sink>(output: &mut K) -> u8
     ensures status { result ≡ 8 }
     ensures tried { IsTried write_fault_line (K.outflow output.old) (K.outflow output.new) }
 {
@@ -66,11 +66,11 @@ pub fn end_run<K: Sink>(output: &mut K, end: Option<End>) -> u8
         return 0;
     };
     if end.is_write_fault() {
-        return tell_write_fault(output);
+        return write_fault_of_write(output);
     }
     match write_fault(output, &end) {
         Ok(()) => end.status(),
-        Err(_) => tell_write_fault(output),
+        Err(_) => write_fault_of_write(output),
     }
 }
 

@@ -1,6 +1,6 @@
 //! The faults with which a program may end, each with its exit status and its line.
 ghost use Rattle.std.specs.Prelude.{◌≡◌};
-ghost use Rattle.program_ends.specs.Ends.{status_of, is_write_fault, fault_front};
+ghost use Rattle.program_ends.specs.Ends.{status_of, is_write_fault, fault_prefix};
 
 use hazard_types::Text;
 
@@ -66,7 +66,7 @@ impl End {
 
     /// The line of the fault without LF, up to its value if it has one.
     pub(crate) fn front(&self) -> &'static str
-        ensures { result.now ≡ fault_front self.now }
+        ensures { result.now ≡ fault_prefix self.now }
     {
         match self {
             End::Usage => "fault Usage",

@@ -1,6 +1,6 @@
 //! One read of an input, and why a run stops early.
 ghost use Rattle.std.specs.Prelude.{◌≡◌, ◌≤◌, length};
-ghost use Rattle.program_ends.specs.Steps.{ReadsFront};
+ghost use Rattle.program_ends.specs.Steps.{ReadsIntoStart};
 
 use crate::ends::End;
 use byte_streams::Source;
@@ -50,7 +50,7 @@ impl From<Stop> for End {
 /// `Failed` if the read failed; nothing was read.
 pub fn read_some<S: Source>(input: &mut S, buffer: &mut [u8], room: usize) -> Result<usize, Failed>
     requires { room ≤ length buffer.old }
-    ensures { ReadsFront (S.inflow input.old) (S.inflow input.new) room result buffer.new }
+    ensures { ReadsIntoStart (S.inflow input.old) (S.inflow input.new) room result buffer.new }
 {
     let count = input.read(&mut buffer[..room])?;
     Ok(count)

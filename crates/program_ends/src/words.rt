@@ -1,6 +1,6 @@
 //! The arguments of a command line.
 ghost use Rattle.std.specs.Prelude.{◌≡◌, IfOk};
-ghost use Rattle.program_ends.specs.Words.{words_behind};
+ghost use Rattle.program_ends.specs.Words.{words_after};
 
 use hazard_types::{List, Oom, Text};
 use std::alloc::Global;
@@ -11,7 +11,7 @@ use std::alloc::Global;
 ///
 /// Out of memory.
 pub fn given_words(alloc: Global, words: &[String], skipped: usize) -> Result<List<Text>, Oom>
-    ensures { IfOk result (λ given. given ≡ words_behind skipped words.now) }
+    ensures { IfOk result (λ given. given ≡ words_after skipped words.now) }
 {
     let mut given = List::new(alloc);
     for word in &words[skipped.min(words.len())..] {

@@ -18,7 +18,7 @@ use Rattle.std.specs.declared.alloc.Global.{Global}
 use Rattle.hazard_types.specs.declared.list.Oom.{Oom}
 use Rattle.byte_streams.specs.Flows.{Adds, Outflow, Streams}
 use Rattle.program_ends.specs.Ends.{IsUntouched}
-use Rattle.program_ends.specs.Words.{words_behind}
+use Rattle.program_ends.specs.Words.{words_after}
 
 -- the words of a command line, or that memory lacked for them
 abbrev pub Words : Type 0
@@ -26,13 +26,13 @@ Words = Result (Vec (String Global) Global) Oom
 
 -- these are the words behind the first ones
 abbrev pub words_given : Words → ℕ → List (List ℕ) → Type 0
-words_given words skipped given = IsOkAnd words (λ read. given ≡ words_behind skipped read.items)
+words_given words skipped given = IsOkAnd words (λ read. given ≡ words_after skipped read.items)
 
 -- Either memory lacked for the words, and the run is untouched, or it does what the words behind the
 -- first ones ask for.
 abbrev pub Starts : Words → ℕ → Type 0 → (List (List ℕ) → Type 0) → Type 0
 Starts words skipped untouched does =
-    untouched ⊎ IsOkAnd words (λ read. does (words_behind skipped read.items))
+    untouched ⊎ IsOkAnd words (λ read. does (words_after skipped read.items))
 
 -- The same of a run from an input to an output, with its status: the words are those behind the
 -- program's name.

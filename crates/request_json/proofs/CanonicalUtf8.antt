@@ -8,7 +8,7 @@ use Rattle.std.proofs.lemmas.Str.{IsUtf8-append}
 use Rattle.json.proofs.Printed.Utf8.{are_ascii, IsUtf8-are_ascii}
 use Rattle.hazard_types.specs.Calendar.{IsCivil, stamp_of, stamp_text, civil_of}
 use Rattle.hazard_types.specs.Characters.{is_name_byte, is_location}
-use Rattle.hazard_types.specs.Codes.{value_beside, without_padding}
+use Rattle.hazard_types.specs.Codes.{value_for_code, without_padding}
 use Rattle.office_types.specs.Desks.{is_desk_name}
 use Rattle.hazard_types.specs.Digits.{three_digits, four_digits, wide}
 use Rattle.hazard_types.specs.Hazards.{hazard_code}
@@ -146,12 +146,12 @@ beside_by : (t : Bool) (value code : List ℕ) (rest : Option (List ℕ)) → ar
 beside_by true value code rest ascii later h = let same : value ≡ code = cc in subst (λ (x : List ℕ). are_ascii x ≡ true) same ascii
 beside_by false value code rest ascii later h = later h
 
-beside_ascii : (rows : List (Coded (List ℕ))) (text code : List ℕ) → list_all (λ (r : Coded (List ℕ)). are_ascii r.value) rows ≡ true → value_beside rows text ≡ Some code → are_ascii code ≡ true
+beside_ascii : (rows : List (Coded (List ℕ))) (text code : List ℕ) → list_all (λ (r : Coded (List ℕ)). are_ascii r.value) rows ≡ true → value_for_code rows text ≡ Some code → are_ascii code ≡ true
 beside_ascii [] text code all h = absurd (cc)
 beside_ascii (r ∷ rows) text code all h =
     let p = and_parts (are_ascii r.value) (list_all (λ (x : Coded (List ℕ)). are_ascii x.value) rows) all in
-    beside_by (bytes_eq (without_padding r.code) text) r.value code (value_beside rows text) p.0 (beside_ascii rows text code p.1) h
+    beside_by (bytes_eq (without_padding r.code) text) r.value code (value_for_code rows text) p.0 (beside_ascii rows text code p.1) h
 
-pub cause_utf8 : (cause : List ℕ) → value_beside cause_rows cause ≡ Some cause → IsUtf8 cause
+pub cause_utf8 : (cause : List ℕ) → value_for_code cause_rows cause ≡ Some cause → IsUtf8 cause
 unfolding cause_rows
 cause_utf8 cause h = IsUtf8-are_ascii cause (beside_ascii cause_rows cause cause refl h)

@@ -15,7 +15,7 @@ use Rattle.serde_json.specs.Data.{Data, null, boolean, number, string, array, ob
 use Rattle.serde_json.specs.Find.{get, get_member, as_str, as_number, as_u64, as_object}
 use Rattle.hazard_types.specs.Calendar.{stamp_at, is_digit}
 use Rattle.hazard_types.specs.Characters.{location_at, is_location}
-use Rattle.hazard_types.specs.Codes.{value_beside, without_padding}
+use Rattle.hazard_types.specs.Codes.{value_for_code, without_padding}
 use Rattle.office_types.specs.Desks.{is_desk_name}
 use Rattle.hazard_types.specs.Names.{zone_at, hazard_at, sig_at, four_of, event_if, event_at, number_at as four_at}
 use Rattle.hazard_types.specs.Places.{Place, IsPlace, is_capital}
@@ -177,18 +177,18 @@ row_by : (t : Bool) (code value text found : List ℕ) (rest : Option (List ℕ)
 row_by true code value text found rest e same later h = sym ((bytes_eq-Decides code text).0 e) ∙ same ∙ same_Some value found h
 row_by false code value text found rest e same later h = later h
 
-row_found : (rows : List (Coded (List ℕ))) (text found : List ℕ) → NameThemselves rows → value_beside rows text ≡ Some found → text ≡ found
+row_found : (rows : List (Coded (List ℕ))) (text found : List ℕ) → NameThemselves rows → value_for_code rows text ≡ Some found → text ≡ found
 row_found [] text found all h = absurd (cc)
-row_found (r ∷ rows) text found all h = row_by (bytes_eq (without_padding r.code) text) (without_padding r.code) r.value text found (value_beside rows text) refl all.0 (row_found rows text found all.1) h
+row_found (r ∷ rows) text found all h = row_by (bytes_eq (without_padding r.code) text) (without_padding r.code) r.value text found (value_for_code rows text) refl all.0 (row_found rows text found all.1) h
 
 causes_name_themselves : NameThemselves cause_rows
 unfolding cause_rows
 causes_name_themselves = (refl, (refl, (refl, (refl, (refl, (refl, (refl, tt)))))))
 
-cause_form : (d : Data) (cause : List ℕ) → cause_in d ≡ Some cause → value_beside cause_rows cause ≡ Some cause
+cause_form : (d : Data) (cause : List ℕ) → cause_in d ≡ Some cause → value_for_code cause_rows cause ≡ Some cause
 cause_form d cause h =
-    let a = and_then_some (text_at (codes "cause") d) (value_beside cause_rows) cause h in
-    subst (λ (x : List ℕ). value_beside cause_rows x ≡ Some cause) (row_found cause_rows a.0 cause causes_name_themselves a.2) a.2
+    let a = and_then_some (text_at (codes "cause") d) (value_for_code cause_rows) cause h in
+    subst (λ (x : List ℕ). value_for_code cause_rows x ≡ Some cause) (row_found cause_rows a.0 cause causes_name_themselves a.2) a.2
 
 time_in_form : (key : List ℕ) (d : Data) (time : Option ℕ) → time_in key d ≡ Some time → IsTimeOf time
 time_in_form key d time h = let a = and_then_some (text_at key d) time_at time h in time_form a.0 time a.2

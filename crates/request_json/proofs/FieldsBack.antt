@@ -10,7 +10,7 @@ use Rattle.serde_json.specs.Data.{Data, number, unsigned, string, object, Member
 use Rattle.serde_json.specs.Find.{get, as_str, as_number, as_u64, as_object}
 use Rattle.hazard_types.specs.Calendar.{stamp_of, stamp_at, is_civil}
 use Rattle.hazard_types.specs.Characters.{location_at, is_location}
-use Rattle.hazard_types.specs.Codes.{value_beside}
+use Rattle.hazard_types.specs.Codes.{value_for_code}
 use Rattle.office_types.specs.Desks.{is_desk_name}
 use Rattle.hazard_types.specs.Hazards.{hazard_code}
 use Rattle.hazard_types.specs.Names.{zone_text, zone_at, event_text, event_at, hazard_at}
@@ -133,7 +133,7 @@ zones_back zs h = each_zone zs (recursion_from_All IsPlace zs h)
 
 -- ---- flood values
 
-severity_back : (s : Severity) → value_beside severity_rows (severity_code s) ≡ Some s
+severity_back : (s : Severity) → value_for_code severity_rows (severity_code s) ≡ Some s
 unfolding severity_rows
 severity_back severity.N = refl
 severity_back severity.Zero = refl
@@ -142,7 +142,7 @@ severity_back severity.Two = refl
 severity_back severity.Three = refl
 severity_back severity.U = refl
 
-status_back : (s : Status) → value_beside status_rows (status_code s) ≡ Some s
+status_back : (s : Status) → value_for_code status_rows (status_code s) ≡ Some s
 unfolding status_rows
 status_back status.No = refl
 status_back status.Nr = refl
@@ -163,12 +163,12 @@ flood_values f is =
     let d = object (put (codes "status") (as_text (status_code f.status)) (put_times f (put_source f no_members))) in
     values_by d f
     (value_of (codes "site") f.site d location_at f.site refl (location_utf8 f.site is.site) (location_back f.site is.site))
-    (value_of (codes "severity") (severity_code f.severity) d (value_beside severity_rows) f.severity refl (severity_utf8 f.severity) (severity_back f.severity))
-    (value_of (codes "cause") f.cause d (value_beside cause_rows) f.cause refl (cause_utf8 f.cause is.cause) is.cause)
+    (value_of (codes "severity") (severity_code f.severity) d (value_for_code severity_rows) f.severity refl (severity_utf8 f.severity) (severity_back f.severity))
+    (value_of (codes "cause") f.cause d (value_for_code cause_rows) f.cause refl (cause_utf8 f.cause is.cause) is.cause)
     (value_of (codes "begin") (time_text f.begin) d time_at f.begin refl (time_utf8 f.begin is.begin) (time_back f.begin is.begin))
     (value_of (codes "crest") (time_text f.crest) d time_at f.crest refl (time_utf8 f.crest is.crest) (time_back f.crest is.crest))
     (value_of (codes "end") (time_text f.end) d time_at f.end refl (time_utf8 f.end is.end) (time_back f.end is.end))
-    (value_of (codes "status") (status_code f.status) d (value_beside status_rows) f.status refl (status_utf8 f.status) (status_back f.status))
+    (value_of (codes "status") (status_code f.status) d (value_for_code status_rows) f.status refl (status_utf8 f.status) (status_back f.status))
 
 if_known : {X : Type 0} (t : Bool) (o : Option X) (x : X) → t ≡ true → o ≡ Some x → cond t o None ≡ Some x
 if_known t o x known found = rw (known, found) refl

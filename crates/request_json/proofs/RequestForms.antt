@@ -29,7 +29,7 @@ use Rattle.office_types.specs.declared.request.Target.{Target}
 use Rattle.office_types.specs.declared.request.Target.TheVariants as target
 use Rattle.office_types.specs.declared.request.Texts.{Texts}
 use Rattle.request_json.specs.Fields.{begin_at, end_at, desk_named, if_counted, number_at, zones_of, flood_of, each_event_texts}
-use Rattle.request_json.specs.Form.{given, desk_field, seq_field, verb_field, category_field, number_field, hazard_field, event_field, zones_field, begin_field, end_field, flood_or_none, flood_field, no_texts, texts_or_empty, texts_field, event_texts_or_none, event_texts_field, target_beside, target_field, put_on, issue_part, put_part, event_part, routine_part, draft_in, draft_request, request_in, asked_in, is_issue, training_issue_in}
+use Rattle.request_json.specs.Form.{given, desk_field, seq_field, verb_field, category_field, number_field, hazard_field, event_field, zones_field, begin_field, end_field, flood_or_none, flood_field, no_texts, texts_or_empty, texts_field, event_texts_or_none, event_texts_field, target_given, target_field, put_on, issue_part, put_part, event_part, routine_part, draft_in, draft_request, request_in, asked_in, is_issue, training_issue_in}
 use Rattle.request_json.specs.Formed.{IsNumber, IsHazard, IsEvent, AreTexts, AreEventTexts, AreFloodValues, IsBegin, IsEnd, IsTarget, IsFresh, IsPutPart, IsIssuePart, IsEventPart, IsRoutinePart, HasRequestForm, HasForm}
 use Rattle.request_json.specs.Json.{text_at}
 use Rattle.request_json.specs.Keys.{keys_of, all_known}
@@ -105,7 +105,7 @@ list_by (Some d) ts has h = let a = and_then_some (as_array d) each_event_texts 
 list_ok : (d : Data) (ts : List EventTexts) → HasTexts d → event_texts_field d ≡ Ok ts → All AreEventTexts ts
 list_ok d ts has h = list_by (get (codes "texts") d) ts (λ e found. found_texts (codes "texts") d e has found) (given_ok (event_texts_or_none (get (codes "texts") d)) (codes "texts") ts h)
 
-target_by : (a b : Option Data) (d : Data) (t : Target) → target_beside a b d ≡ Ok t → IsTarget t
+target_by : (a b : Option Data) (d : Data) (t : Target) → target_given a b d ≡ Ok t → IsTarget t
 target_by None None d t h = absurd (cc)
 target_by (Some x) (Some y) d t h = absurd (cc)
 target_by (Some x) None d t h =

@@ -7,7 +7,7 @@ use Rattle.serde_json.specs.Data.{Data, number, unsigned, array, object, Members
 use Rattle.serde_json.specs.Find.{get, get_member, as_array}
 use Rattle.serde_json.specs.Read.{read}
 use Rattle.serde_json.specs.Written.{compact_text}
-use Rattle.hazard_types.specs.Codes.{value_beside}
+use Rattle.hazard_types.specs.Codes.{value_for_code}
 use Rattle.hazard_types.specs.Given.{◌>>=◌}
 use Rattle.hazard_types.specs.Hazards.{hazard_code}
 use Rattle.hazard_types.specs.Names.{category_code, event_text, event_at, hazard_at}
@@ -34,7 +34,7 @@ use Rattle.office_types.specs.declared.request.Texts.{Texts}
 use Rattle.hazard_types.proofs.NamesBack.{category_back}
 use Rattle.request_json.specs.Canonical.{as_text, put_text, zone_items, texts_data, flood_data, event_texts_items, put_begin, put_end, put_flood, put_target, put_zones_texts, put_put, put_event_part, put_routine, put_do, put_draft, put_request, asked_members, asked_text}
 use Rattle.request_json.specs.Fields.{begin_at, end_at, desk_named, if_counted, zones_of}
-use Rattle.request_json.specs.Form.{given, desk_field, seq_field, verb_field, category_field, number_field, hazard_field, event_field, zones_field, begin_field, end_field, flood_or_none, flood_field, texts_or_empty, texts_field, event_texts_or_none, event_texts_field, target_beside, target_field, put_on, issue_part, put_part, event_part, routine_part, draft_in, draft_request, request_in, asked_in, asked_of}
+use Rattle.request_json.specs.Form.{given, desk_field, seq_field, verb_field, category_field, number_field, hazard_field, event_field, zones_field, begin_field, end_field, flood_or_none, flood_field, texts_or_empty, texts_field, event_texts_or_none, event_texts_field, target_given, target_field, put_on, issue_part, put_part, event_part, routine_part, draft_in, draft_request, request_in, asked_in, asked_of}
 use Rattle.request_json.specs.Formed.{IsNumber, IsHazard, IsEvent, AreTexts, AreEventTexts, AreFloodValues, IsBegin, IsEnd, IsTarget, IsFresh, IsPutPart, IsEventPart, IsRoutinePart, HasRequestForm, HasForm}
 use Rattle.request_json.specs.Keys.{verb_at, keys_of, has_key, all_known}
 use Rattle.request_json.specs.declared.asked.Asked.{Asked}
@@ -184,8 +184,8 @@ part_has p ms d through none =
       texts = through (codes "texts") refl refl ∙ below_times (codes "texts") p m1 refl refl refl ∙ texts_here p.zones p.texts m0;
     }
 
-target_by : (a b : Option Data) (d : Data) → get (codes "hazard") d ≡ a → get (codes "event") d ≡ b → target_field d ≡ target_beside a b d
-target_by a b d h e = ap (λ (x : Option Data). target_beside x (get (codes "event") d) d) h ∙ ap (λ (y : Option Data). target_beside a y d) e
+target_by : (a b : Option Data) (d : Data) → get (codes "hazard") d ≡ a → get (codes "event") d ≡ b → target_field d ≡ target_given a b d
+target_by a b d h e = ap (λ (x : Option Data). target_given x (get (codes "event") d) d) h ∙ ap (λ (y : Option Data). target_given a y d) e
 
 target_read : (t : Target) (ms : Members) (d : Data) → IsTarget t → get (codes "hazard") d ≡ get_member (codes "hazard") (put_target t ms) → get (codes "event") d ≡ get_member (codes "event") (put_target t ms)
     → get_member (codes "hazard") ms ≡ None → get_member (codes "event") ms ≡ None → target_field d ≡ Ok t
@@ -292,7 +292,7 @@ verb_read (request.Send n) d has = word_read (codes "send") verb.Send d (has (co
 verb_read (request.Correct n ts) d has = word_read (codes "correct") verb.Correct d (has (codes "do") refl refl) refl refl
 
 category_read : (c : Category) (d : Data) → get (codes "category") d ≡ Some (as_text (category_code c)) → category_field d ≡ Ok c
-category_read c d found = given_back _ c (codes "category") (value_of (codes "category") (category_code c) d (value_beside category_rows) c found (category_utf8 c) (category_back c))
+category_read c d found = given_back _ c (codes "category") (value_of (codes "category") (category_code c) d (value_for_code category_rows) c found (category_utf8 c) (category_back c))
 
 list_read : (ts : List EventTexts) (d : Data) → All AreEventTexts ts → get (codes "texts") d ≡ Some (array (event_texts_items ts)) → event_texts_field d ≡ Ok ts
 list_read ts d is found = given_back _ ts (codes "texts") (ap event_texts_or_none found ∙ list_back ts is)

@@ -5,7 +5,7 @@ use Rattle.serde_json.specs.Data.{Data, Items, no_items, item}
 use Rattle.serde_json.specs.Find.{get, as_str, as_number, as_u64, as_object}
 use Rattle.hazard_types.specs.Calendar.{stamp_at}
 use Rattle.hazard_types.specs.Characters.{location_at}
-use Rattle.hazard_types.specs.Codes.{value_beside}
+use Rattle.hazard_types.specs.Codes.{value_for_code}
 use Rattle.office_types.specs.Desks.{is_desk_name}
 use Rattle.hazard_types.specs.Names.{zone_at, event_at}
 use Rattle.hazard_types.specs.Places.{Place}
@@ -62,17 +62,17 @@ abbrev pub site_in : Data → Option (List ℕ)
 site_in d = option_and_then location_at (text_at (codes "site") d)
 
 abbrev pub severity_in : Data → Option Severity
-severity_in d = option_and_then (value_beside severity_rows) (text_at (codes "severity") d)
+severity_in d = option_and_then (value_for_code severity_rows) (text_at (codes "severity") d)
 
 -- one of the seven causes that a request may name
 abbrev pub cause_in : Data → Option (List ℕ)
-cause_in d = option_and_then (value_beside cause_rows) (text_at (codes "cause") d)
+cause_in d = option_and_then (value_for_code cause_rows) (text_at (codes "cause") d)
 
 abbrev pub time_in : List ℕ → Data → Option (Option ℕ)
 time_in key d = option_and_then time_at (text_at key d)
 
 abbrev pub status_in : Data → Option Status
-status_in d = option_and_then (value_beside status_rows) (text_at (codes "status") d)
+status_in d = option_and_then (value_for_code status_rows) (text_at (codes "status") d)
 
 -- the values of an object, if each is there and right
 unfoldable pub values_in : Data → Option Flood

@@ -5,7 +5,7 @@ use Rattle.std.specs.Option.{ok_or}
 use Rattle.std.specs.Str.{bytes_eq}
 use Rattle.serde_json.specs.Data.{Data}
 use Rattle.serde_json.specs.Find.{get, as_array, as_object}
-use Rattle.hazard_types.specs.Codes.{value_beside}
+use Rattle.hazard_types.specs.Codes.{value_for_code}
 use Rattle.hazard_types.specs.Given.{◌>>=◌}
 use Rattle.hazard_types.specs.Names.{hazard_at, event_at}
 use Rattle.hazard_types.specs.Places.{Place}
@@ -50,7 +50,7 @@ verb_field d = given (option_and_then verb_at (text_at (codes "do") d)) (codes "
 
 abbrev pub category_field : Data → Result Category Refusal
 category_field d =
-    given (option_and_then (value_beside category_rows) (text_at (codes "category") d))
+    given (option_and_then (value_for_code category_rows) (text_at (codes "category") d))
     (codes "category")
 
 abbrev pub number_field : List ℕ → Data → Result ℕ Refusal
@@ -101,14 +101,14 @@ abbrev pub event_texts_field : Data → Result (List EventTexts) Refusal
 event_texts_field d = given (event_texts_or_none (get (codes "texts") d)) (codes "texts")
 
 -- exactly one of hazard and event is there
-abbrev pub target_beside : Option Data → Option Data → Data → Result Target Refusal
-target_beside (Some h) None d = hazard_field d >>= λ hazard. Ok (target.Fresh hazard)
-target_beside None (Some e) d = event_field d >>= λ event. Ok (target.Join event)
-target_beside None None d = Err (WrongShape (codes "hazard"))
-target_beside (Some h) (Some e) d = Err (WrongShape (codes "hazard"))
+abbrev pub target_given : Option Data → Option Data → Data → Result Target Refusal
+target_given (Some h) None d = hazard_field d >>= λ hazard. Ok (target.Fresh hazard)
+target_given None (Some e) d = event_field d >>= λ event. Ok (target.Join event)
+target_given None None d = Err (WrongShape (codes "hazard"))
+target_given (Some h) (Some e) d = Err (WrongShape (codes "hazard"))
 
 abbrev pub target_field : Data → Result Target Refusal
-target_field d = target_beside (get (codes "hazard") d) (get (codes "event") d) d
+target_field d = target_given (get (codes "hazard") d) (get (codes "event") d) d
 
 -- the zones, the period, the H-VTEC values and the texts of a put
 unfoldable pub put_on : Target → Data → Result PutPart Refusal

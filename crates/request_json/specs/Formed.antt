@@ -2,7 +2,7 @@
 use Rattle.std.specs.Prelude.{◌≡◌, ◌<◌, ◌≤◌, ◌^◌, ℕ, IsTrue, IsUtf8, length, Some, IfSome}
 use Rattle.std.specs.List.{All}
 use Rattle.hazard_types.specs.Characters.{is_location}
-use Rattle.hazard_types.specs.Codes.{value_beside}
+use Rattle.hazard_types.specs.Codes.{value_for_code}
 use Rattle.office_types.specs.Desks.{is_desk_name}
 use Rattle.hazard_types.specs.Places.{IsPlace, are_letters}
 use Rattle.hazard_types.specs.Tables.{cause_rows}
@@ -57,7 +57,7 @@ pub record AreEventTexts (t : EventTexts) : Type 0 where
 -- a location of five of A to Z and 0 to 9, one of the written causes, and times of 2000 to 2099
 pub record AreFloodValues (f : Flood) : Type 0 where
   pub site : IsTrue (is_location f.site)
-  pub cause : value_beside cause_rows f.cause ≡ Some f.cause
+  pub cause : value_for_code cause_rows f.cause ≡ Some f.cause
   pub begin : IfSome f.begin IsMinute
   pub crest : IfSome f.crest IsMinute
   pub end : IfSome f.end IsMinute

@@ -1,6 +1,6 @@
 //! Reads requests and lines of the training office.
 ghost use Rattle.std.specs.Prelude.{◌≡◌, if◌then◌else◌, IfOk, codes, Some, None, option_and_then};
-ghost use Rattle.hazard_types.specs.Codes.{value_beside};
+ghost use Rattle.hazard_types.specs.Codes.{value_for_code};
 ghost use Rattle.hazard_types.specs.Given.{Gives};
 ghost use Rattle.hazard_types.specs.Names.{hazard_at};
 ghost use Rattle.hazard_types.specs.Tables.{category_rows};
@@ -71,7 +71,7 @@ fn verb_field(alloc: Global, value: &Value) -> Result<Verb, Or<Refusal>>
 
 fn category_of(value: &Value) -> Option<Category>
     ensures { result
-        ≡ option_and_then (value_beside category_rows)
+        ≡ option_and_then (value_for_code category_rows)
         (text_at (codes "category") (view value.now)) }
 {
     let text = text_at(value, "category")?;

@@ -26,7 +26,7 @@ use Rattle.event_life.specs.Periods.{ends_after, is_live, overlaps}
 use Rattle.event_life.specs.Products.{by_key, put, row_at}
 use Rattle.event_life.proofs.Members.{IsIn, all_of, any_in, in_any, find_in}
 use Rattle.event_life.proofs.Puts.{at_key, at_key-parts, row_at-put, put-sorted}
-use Rattle.row_index.specs.Gathering.{has_zone, least_of, lesser, lives, needed, or_later, with_row, with_rank, same_rank, zone_said, rank_said, IsLive, AreGathered}
+use Rattle.row_index.specs.Gathering.{has_zone, least_of, lesser, lives, needed, or_later, with_row, with_rank, same_rank, zone_said, rank_of_line, IsLive, AreGathered}
 use Rattle.row_index.specs.Holding.{AreRowsOf, told, AreHeld}
 use Rattle.row_index.specs.Reaching.{rank_of, is_above_any, AreTold, Reaches}
 use Rattle.row_index.specs.Seating.{upgrades}
@@ -123,24 +123,24 @@ any_rank q r ranks = by_case (list_any (λ x. same_rank x r) ranks) refl
     by_case false h = list_any-append q ranks (r ∷ []) ∙ sym (turned (q r) (list_any q ranks))
 
 -- one line more
-pub ranks-next : (ranks next : List Rank) (lines : List Line) (i : ℕ) (line : Line) (counted : Bool) (rank : Rank) → i < length lines → line ≡ get_or lines i line → counted ≡ upgrades line → rank ≡ rank_said line
-    → next ≡ cond counted (with_rank rank ranks) ranks → Tells upgrades rank_said ranks (take i lines) → Tells upgrades rank_said next (take (i + 1) lines)
+pub ranks-next : (ranks next : List Rank) (lines : List Line) (i : ℕ) (line : Line) (counted : Bool) (rank : Rank) → i < length lines → line ≡ get_or lines i line → counted ≡ upgrades line → rank ≡ rank_of_line line
+    → next ≡ cond counted (with_rank rank ranks) ranks → Tells upgrades rank_of_line ranks (take i lines) → Tells upgrades rank_of_line next (take (i + 1) lines)
 ranks-next ranks next lines i line true rank within is counts rank_is next_is tells q =
     ap (list_any q) next_is
     ∙ any_rank q rank ranks
     ∙ ap (λ (r : Rank). q r || list_any q ranks) rank_is
-    ∙ ap (λ (b : Bool). q (rank_said line) || b) (tells q)
-    ∙ turned (q (rank_said line)) (list_any (λ l. upgrades l && q (rank_said l)) (take i lines))
-    ∙ ap (λ (b : Bool). list_any (λ l. upgrades l && q (rank_said l)) (take i lines) || ((b && q (rank_said line)) || false)) counts
-    ∙ sym (list_any-append (λ l. upgrades l && q (rank_said l)) (take i lines) (line ∷ []))
-    ∙ ap (list_any (λ l. upgrades l && q (rank_said l))) (sym (one_longer lines i line within is))
+    ∙ ap (λ (b : Bool). q (rank_of_line line) || b) (tells q)
+    ∙ turned (q (rank_of_line line)) (list_any (λ l. upgrades l && q (rank_of_line l)) (take i lines))
+    ∙ ap (λ (b : Bool). list_any (λ l. upgrades l && q (rank_of_line l)) (take i lines) || ((b && q (rank_of_line line)) || false)) counts
+    ∙ sym (list_any-append (λ l. upgrades l && q (rank_of_line l)) (take i lines) (line ∷ []))
+    ∙ ap (list_any (λ l. upgrades l && q (rank_of_line l))) (sym (one_longer lines i line within is))
 ranks-next ranks next lines i line false rank within is counts rank_is next_is tells q =
     ap (list_any q) next_is
     ∙ tells q
-    ∙ sym (or_none (list_any (λ l. upgrades l && q (rank_said l)) (take i lines)))
-    ∙ ap (λ (b : Bool). list_any (λ l. upgrades l && q (rank_said l)) (take i lines) || ((b && q (rank_said line)) || false)) counts
-    ∙ sym (list_any-append (λ l. upgrades l && q (rank_said l)) (take i lines) (line ∷ []))
-    ∙ ap (list_any (λ l. upgrades l && q (rank_said l))) (sym (one_longer lines i line within is))
+    ∙ sym (or_none (list_any (λ l. upgrades l && q (rank_of_line l)) (take i lines)))
+    ∙ ap (λ (b : Bool). list_any (λ l. upgrades l && q (rank_of_line l)) (take i lines) || ((b && q (rank_of_line line)) || false)) counts
+    ∙ sym (list_any-append (λ l. upgrades l && q (rank_of_line l)) (take i lines) (line ∷ []))
+    ∙ ap (list_any (λ l. upgrades l && q (rank_of_line l))) (sym (one_longer lines i line within is))
 
 -- a live row comes over others
 
@@ -407,7 +407,7 @@ ends_later a t begin true h g = g
 ends_later a t begin false h g = h
 
 module _ (es : List (Event × List Row)) (keys : List Reach) (t from : ℕ) (lines : List Line) (zones : List Place) (ranks : List Rank) (events : List Event) (higher : List Row)
-    (held : AreHeld es) (reaches : Reaches keys es) (zones_are : Tells upgrades zone_said zones lines) (ranks_are : Tells upgrades rank_said ranks lines)
+    (held : AreHeld es) (reaches : Reaches keys es) (zones_are : Tells upgrades zone_said zones lines) (ranks_are : Tells upgrades rank_of_line ranks lines)
     (events_are : AreTold keys zones from ranks events) where
   -- a row that is live and overlaps the line's ends behind the minute
   still_live : from ≡ unwrap_or (least_of (told es) t None lines) t → (line : Line) → IsIn line lines → upgrades line ≡ true → (own r : Row) → row_at (told es) line.event line.zone ≡ Some own
@@ -423,7 +423,7 @@ module _ (es : List (Event × List Row)) (keys : List Reach) (t from : ℕ) (lin
       rw (l.0, behind) refl
 
   over_line : from ≡ unwrap_or (least_of (told es) t None lines) t → AreGathered (told es) from zones events higher → (line : Line) → IsIn line lines → upgrades line ≡ true
-      → (own : Row) → row_at (told es) line.event line.zone ≡ Some own → AreHigher (told es) t own (rank_said line) higher
+      → (own : Row) → row_at (told es) line.event line.zone ≡ Some own → AreHigher (told es) t own (rank_of_line line) higher
   over_line from_is gathered line there up own own_is = record {
     in_order = gathered.in_order none-sorted;
     part = λ e y r is. part_of (list_any (is_at (by_event e)) events && has_zone zones y && lives from (row_at (told es) e y)) (row_at (told es) e y) r (sym (gathered.found e y) ∙ is);
@@ -431,16 +431,16 @@ module _ (es : List (Event × List Row)) (keys : List Reach) (t from : ℕ) (lin
         let zone_is : own.zone ≡ line.zone = (row-own (told es) line.event line.zone own own_is).1 in
         let parse_zone : has_zone zones own.zone ≡ true =
         ap (has_zone zones) zone_is ∙ zones_are (is_at (by_place line.zone)) ∙ in_any (λ (l : Line). upgrades l && is_at (by_place line.zone) l.zone) lines line there (rw (up, at_own by_place by_place_total by_place_ties line.zone) refl) in
-        let ranked : is_above_any ranks e ≡ true = ranks_are (λ low. is_above (rank_of e) low) ∙ in_any (λ (l : Line). upgrades l && is_above (rank_of e) (rank_said l)) lines line there (rw (up, high) refl) in
+        let ranked : is_above_any ranks e ≡ true = ranks_are (λ low. is_above (rank_of e) low) ∙ in_any (λ (l : Line). upgrades l && is_above (rank_of e) (rank_of_line l)) lines line there (rw (up, high) refl) in
         let still = still_live from_is line there up own r own_is live over in
-        let parse_event : list_any (is_at (by_event e)) events ≡ true = found-among es keys zones from ranks events e own.zone r held reaches events_are parse_zone is still ranked (has_rank (rank_of e) (rank_said line) high) in
+        let parse_event : list_any (is_at (by_event e)) events ≡ true = found-among es keys zones from ranks events e own.zone r held reaches events_are parse_zone is still ranked (has_rank (rank_of e) (rank_of_line line) high) in
         let lives_is : lives from (row_at (told es) e own.zone) ≡ true = ap (lives from) is ∙ still in
         gathered.found e own.zone ∙ rw (parse_event, parse_zone, lives_is) is;
   }
 
   over_lines : from ≡ unwrap_or (least_of (told es) t None lines) t → AreGathered (told es) from zones events higher → AreOver (told es) t lines higher
   over_lines from_is gathered =
-      all_of (λ (line : Line). upgrades line ≡ true → (own : Row) → row_at (told es) line.event line.zone ≡ Some own → AreHigher (told es) t own (rank_said line) higher) lines (over_line from_is gathered)
+      all_of (λ (line : Line). upgrades line ≡ true → (own : Row) → row_at (told es) line.event line.zone ≡ Some own → AreHigher (told es) t own (rank_of_line line) higher) lines (over_line from_is gathered)
 
   pub gathered-over : (rows : List Row) → told es ≡ rows → from ≡ unwrap_or (least_of rows t None lines) t → AreGathered rows from zones events higher → AreOver rows t lines higher
   gathered-over rows is = subst (λ (all : List Row). from ≡ unwrap_or (least_of all t None lines) t → AreGathered all from zones events higher → AreOver all t lines higher) is over_lines

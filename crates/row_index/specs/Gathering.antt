@@ -19,8 +19,8 @@ use Rattle.row_index.specs.Seating.{upgrades}
 abbrev pub zone_said : Line → Place
 zone_said line = line.zone
 
-abbrev pub rank_said : Line → Option (Family × ℕ)
-rank_said line = rank_of line.event
+abbrev pub rank_of_line : Line → Option (Family × ℕ)
+rank_of_line line = rank_of line.event
 
 abbrev pub same_rank : Option (Family × ℕ) → Option (Family × ℕ) → Bool
 same_rank None None = true

@@ -30,7 +30,7 @@ use std::collections::BTreeMap;
 use std::marker::Model;
 
 /// Puts rows of the event with `life` in `zones`, and corrects the counts of unended rows.
-fn put_standing(
+fn insert_standing(
     alloc: Global,
     rows: &mut SharedRows,
     standing: &mut Standings,
@@ -122,7 +122,7 @@ impl EventRows {
         ensures { OnOk result
             (self.new ≡ put_each (rows_along event.now life.now zones.now) self.old) }
     {
-        match put_standing(
+        match insert_standing(
             alloc,
             &mut self.rows,
             &mut self.standing,

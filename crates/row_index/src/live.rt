@@ -3,7 +3,7 @@ ghost use Rattle.std.specs.Prelude.{◌≡◌, option_map, None, if◌then◌els
 ghost use Rattle.std.specs.List.{list_any};
 ghost use Rattle.std.specs.Map.{values_of};
 ghost use Rattle.event_life.specs.Products.{row_at};
-ghost use Rattle.row_index.specs.Gathering.{has_zone, lesser, or_later, rank_said, same_rank, with_rank, with_row, zone_said, IsLive};
+ghost use Rattle.row_index.specs.Gathering.{has_zone, lesser, or_later, rank_of_line, same_rank, with_rank, with_row, zone_said, IsLive};
 ghost use Rattle.row_index.specs.Seating.{AreSeated, upgrades};
 ghost use Rattle.row_index.specs.Telling.{Tells};
 
@@ -63,7 +63,7 @@ fn add_rank(ranks: &mut Vec<Rank>, counts: bool, rank: Rank) -> Result<(), Oom>
 
 /// Returns the ranks of the hazards of UPG lines, each once.
 pub fn upgraded_ranks(alloc: Global, lines: &[Line]) -> Result<Vec<Rank>, Oom>
-    ensures { IfOk result (λ ranks. Tells upgrades rank_said ranks.items lines.now) }
+    ensures { IfOk result (λ ranks. Tells upgrades rank_of_line ranks.items lines.now) }
 {
     let mut ranks = Vec::new(alloc);
     for line in lines {

@@ -127,7 +127,7 @@ fn set_count<K: Ord + Drop>(
 }
 
 /// Subtracts rows from the count of their period, if they had a life that was not ended.
-fn stand_less(standings: &mut Standings, before: &Before) -> Result<(), Oom>
+fn uncount_rows(standings: &mut Standings, before: &Before) -> Result<(), Oom>
     ensures { OnOk result (standings.new.entries ≡ some_less before.now standings.old.entries) }
 {
     let Some(old) = &before.life else {
@@ -146,11 +146,11 @@ fn stand_less(standings: &mut Standings, before: &Before) -> Result<(), Oom>
 }
 
 /// Subtracts rows with several lives from the counts of their periods.
-fn stand_all_less(standings: &mut Standings, befores: &[Before]) -> Result<(), Oom>
+fn uncount_all(standings: &mut Standings, befores: &[Before]) -> Result<(), Oom>
     ensures { OnOk result (standings.new.entries ≡ all_less befores.now standings.old.entries) }
 {
     for before in befores {
-        stand_less(standings, before)?;
+        uncount_rows(standings, before)?;
     }
     Ok(())
 }
@@ -198,5 +198,5 @@ pub fn replace_counted(
         return Ok(());
     }
     stand_more(standings, zones, life)?;
-    stand_all_less(standings, befores)
+    uncount_all(standings, befores)
 }

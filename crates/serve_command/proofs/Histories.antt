@@ -6,7 +6,7 @@ use Rattle.desk_traits.specs.declared.disk.Disk.{Ghosts as Disks}
 use Rattle.desk_traits.specs.Faults.{Rose}
 use Rattle.desk_traits.proofs.Moments.{weaker}
 use Rattle.office_journal.specs.Changes.{Change}
-use Rattle.office_journal.specs.Given.{Gave, IsFront, MayPend, history_behind}
+use Rattle.office_journal.specs.Given.{Gave, IsFront, MayPend, history_after}
 use Rattle.office_journal.specs.Grown.{NonePends, StaysSince, Stood}
 use Rattle.office_journal.specs.Histories.{History}
 use Rattle.office_journal.specs.Kept.{disk_of}
@@ -52,10 +52,10 @@ module _ {D : Type 0} (d : Disks D)
         let given = given_by happenings in
         some_less (MayPend (Was None) given) (MayPend NonePends given) (pends_weaker (Was None) NonePends given never) held.pending held.which
 
-    carried : (disk : D) → IsOpened d disk opened → IsSince d opened kept happenings → Carries d (d.faults disk) file (history_behind h (given_by happenings)) (MayPend NonePends (given_by happenings)) kept
+    carried : (disk : D) → IsOpened d disk opened → IsSince d opened kept happenings → Carries d (d.faults disk) file (history_after h (given_by happenings)) (MayPend NonePends (given_by happenings)) kept
     carried disk first since =
         let may = MayPend NonePends (given_by happenings) in
-        let last = history_behind h (given_by happenings) in
+        let last = history_after h (given_by happenings) in
         let counted = subst (λ (n : ℕ). min (n + faults_in happenings) (2 ^ 64 - 1) ≤ d.faults (disk_of kept)) first.steady since.counted in
         record {
           pending = held.pending;

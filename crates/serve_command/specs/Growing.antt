@@ -1,7 +1,7 @@
 -- How the history of an office that was opened grows by what happens to it.
 use Rattle.std.specs.Prelude.{◌≡◌, ℕ, List, [], Some, length}
 use Rattle.desk_traits.specs.declared.disk.Disk.{Ghosts as Disks}
-use Rattle.office_journal.specs.Given.{history_behind}
+use Rattle.office_journal.specs.Given.{history_after}
 use Rattle.office_journal.specs.Grown.{KeepsHistory}
 use Rattle.office_journal.specs.Histories.{History}
 use Rattle.office_journal.specs.Kept.{disk_of, entries_of, state_of}
@@ -14,4 +14,4 @@ abbrev pub HasGrown : {D : Type 0} (d : Disks D) → D → KeptOffice D d → Ke
 HasGrown d disk opened kept happenings =
     (bytes : List ℕ) → d.seen disk ≡ Some bytes → (file : List ℕ) × (h : History)
     × KeepsHistory d disk (disk_of opened) (disk_of kept) bytes file h (given_by happenings) (stood_by [] happenings) (state_of kept)
-    × (entries_of kept ≡ length (history_behind h (given_by happenings)).entries)
+    × (entries_of kept ≡ length (history_after h (given_by happenings)).entries)

@@ -19,10 +19,10 @@ unfoldable pub summary : ℕ → ℕ → List ℕ
 summary requests products = codes "requests " ++ decimal requests ++ codes " products " ++ decimal products ++ codes "\n"
 
 -- What is told: the line of the office at the end, where all connections were served, unless memory lacks for it; or the port's fault, or want of memory.
-abbrev pub TellsServed : ServeEnd → List ℕ → Outflow → Outflow → ℕ → Type 0
-TellsServed serve.Done line old new status = TellsText line old new status ⊎ Telling [] old new (Some OutOfMemory) status
-TellsServed serve.PortFault line old new status = Telling [] old new (Some PortFault) status
-TellsServed serve.OutOfMemory line old new status = Telling [] old new (Some OutOfMemory) status
+abbrev pub WritesServed : ServeEnd → List ℕ → Outflow → Outflow → ℕ → Type 0
+WritesServed serve.Done line old new status = TellsText line old new status ⊎ Telling [] old new (Some OutOfMemory) status
+WritesServed serve.PortFault line old new status = Telling [] old new (Some PortFault) status
+WritesServed serve.OutOfMemory line old new status = Telling [] old new (Some OutOfMemory) status
 
 module _ {D : Type 0} (d : Disks D) (gives : ℤ → Type 0) where
   -- the office that the disk holds was opened and served
@@ -33,7 +33,7 @@ module _ {D : Type 0} (d : Disks D) (gives : ℤ → Type 0) where
     pub closed : KeptOffice D d
     pub end : ServeEnd
     pub served : IsServed d gives opened closed serving.port serving.workers serving.connections port port' end
-    pub told : TellsServed end (summary (entries_of closed) (length (state_of closed).products)) old new status
+    pub told : WritesServed end (summary (entries_of closed) (length (state_of closed).products)) old new status
     pub handed : next ≡ disk_of closed
     -- one legal history, which holds the requests that were accepted on the links behind what was found, and the disk
     pub history : HasGrown d disk opened closed served.happenings

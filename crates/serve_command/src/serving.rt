@@ -2,7 +2,7 @@
 ghost use Rattle.std.specs.Prelude.{◌≡◌, IfOk, length};
 ghost use Rattle.office_journal.specs.Kept.{entries_of, state_of};
 ghost use Rattle.desk_commands.specs.Opening.{IsOpened};
-ghost use Rattle.serve_command.specs.Serving.{IsServeRun, Serves, TellsServed, summary};
+ghost use Rattle.serve_command.specs.Serving.{IsServeRun, Serves, WritesServed, summary};
 ghost use Rattle.serve_command.specs.Words.{IsServing};
 
 use crate::growing::an_opened_office_keeps_its_history;
@@ -46,13 +46,13 @@ fn summary(alloc: Global, requests: u64, products: u32) -> Result<Text, Oom>
 }
 
 /// Writes the last line of a service, ends the run and returns the exit status.
-fn tell_served<K: Sink, D: Disk>(
+fn write_served<K: Sink, D: Disk>(
     alloc: Global,
     output: &mut K,
     kept: &KeptOffice<D>,
     end: ServeEnd,
 ) -> u8
-    ensures { TellsServed end (summary (entries_of kept.now) (length (state_of kept.now).products))
+    ensures { WritesServed end (summary (entries_of kept.now) (length (state_of kept.now).products))
         (K.outflow output.old) (K.outflow output.new) result }
 {
     match end {
@@ -99,7 +99,7 @@ fn serve_office<
         means.gate,
     );
     an_opened_office_keeps_its_history(&kept);
-    let status = tell_served(means.alloc, output, &kept, end);
+    let status = write_served(means.alloc, output, &kept, end);
     Ended {
         status,
         disk: kept.into_disk(),

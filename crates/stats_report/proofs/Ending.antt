@@ -18,7 +18,7 @@ use Rattle.program_ends.proofs.Telling.{begins_self}
 use Rattle.archive_report.specs.declared.words.Asked.{Asked}
 use Rattle.archive_report.specs.Report.{products_of, faults_in}
 use Rattle.archive_report.proofs.Fronts.{readings_told}
-use Rattle.stats_report.specs.Readings.{statistics, IsTallied, ReadsTo, TellsTo}
+use Rattle.stats_report.specs.Readings.{statistics, IsTallied, ReadsTo, WritesTo}
 use Rattle.stats_report.specs.Report.{stats_text}
 use Rattle.stats_report.specs.Runs.{IsStatsRun}
 use Rattle.stats_report.specs.Tallies.{IsKept}
@@ -39,7 +39,7 @@ text_is asked read text tally is told =
 module _ (asked : Asked) (limit : ℕ) (left left' taken : Option (List ℕ)) (tally : Tally) where
   -- the run stopped before there was a text, with nothing written
   untold : {T : Type 0} (why : Stop) (read : List ℕ) → Takes left left' read → length read ≤ limit + 1 → (why ≡ stop.Read → length read ≤ limit) → (why ≡ stop.TooLong → length read ≡ limit + 1) → (why ≡ stop.Write → ⊥)
-      → TellsTo {T = T} asked limit left left' taken taken (Err why)
+      → WritesTo {T = T} asked limit left left' taken taken (Err why)
   untold {T} why read takes within failed long unwritten = record {
     read = read;
     text = [];
@@ -60,19 +60,19 @@ module _ (asked : Asked) (limit : ℕ) (left left' taken : Option (List ℕ)) (t
       reason other e = cc
 
   -- the run stopped while the input was read
-  pub ends_reading : {T : Type 0} (why : Stop) → ReadsTo {T = T} asked limit left left' tally (Err why) → TellsTo {T = T} asked limit left left' taken taken (Err why)
+  pub ends_reading : {T : Type 0} (why : Stop) → ReadsTo {T = T} asked limit left left' tally (Err why) → WritesTo {T = T} asked limit left left' taken taken (Err why)
   ends_reading why t = untold why t.read t.takes t.within (λ e. t.read_fault (ap (λ s. Err s) e)) (λ e. t.too_long (ap (λ s. Err s) e)) (λ e. t.unwritten (ap (λ s. Err s) e))
 
   module _ {T : Type 0} (x : T) (t : ReadsTo {T = T} asked limit left left' tally (Ok x)) where
     -- memory lacked for the text
-    pub ends_texting : {U : Type 0} → TellsTo {T = U} asked limit left left' taken taken (Err stop.OutOfMemory)
+    pub ends_texting : {U : Type 0} → WritesTo {T = U} asked limit left left' taken taken (Err stop.OutOfMemory)
     ends_texting = untold stop.OutOfMemory t.read t.takes t.within (λ e. absurd (cc)) (λ e. absurd (cc)) (λ e. absurd (cc))
 
     module _ (text : List ℕ) (taken' : Option (List ℕ)) (is : IsText text tally) where
       whole_is : text ≡ statistics asked t.read
       whole_is = text_is asked t.read text tally t.ended.2 is
 
-      pub ends_whole : {U : Type 0} (u : U) → Adds taken taken' text → TellsTo asked limit left left' taken taken' (Ok u)
+      pub ends_whole : {U : Type 0} (u : U) → Adds taken taken' text → WritesTo asked limit left left' taken taken' (Ok u)
       ends_whole u adds = record {
         read = t.read;
         text = text;
@@ -89,7 +89,7 @@ module _ (asked : Asked) (limit : ℕ) (left left' taken : Option (List ℕ)) (t
         whole = λ _. refl;
       }
 
-      pub ends_writing : {U : Type 0} (front : List ℕ) → Begins front text → Adds taken taken' front → TellsTo {T = U} asked limit left left' taken taken' (Err stop.Write)
+      pub ends_writing : {U : Type 0} (front : List ℕ) → Begins front text → Adds taken taken' front → WritesTo {T = U} asked limit left left' taken taken' (Err stop.Write)
       ends_writing front begins adds = record {
         read = t.read;
         text = text;
@@ -108,7 +108,7 @@ module _ (asked : Asked) (limit : ℕ) (left left' taken : Option (List ℕ)) (t
 
 module _ {T : Type 0} (asked : Asked) (limit : ℕ) (before after : Streams) where
   -- a run that told all
-  pub run_whole : (x : T) → TellsTo asked limit before.input.left after.input.left before.output.taken after.output.taken (Ok x) → after.input.faults ≡ before.input.faults → after.output.faults ≡ before.output.faults → IsStatsRun asked limit before after 0
+  pub run_whole : (x : T) → WritesTo asked limit before.input.left after.input.left before.output.taken after.output.taken (Ok x) → after.input.faults ≡ before.input.faults → after.output.faults ≡ before.output.faults → IsStatsRun asked limit before after 0
   run_whole x t read_steady write_steady = record {
     read = t.read;
     written = t.written;
@@ -132,7 +132,7 @@ cut_nil writes writes' text line written none cut = subst (λ (t : List ℕ). Is
 
 module _ {T : Type 0} (asked : Asked) (limit : ℕ) (before after : Streams) (mid : Outflow) (status : ℕ) where
   -- a run that ended early, for each reason
-  read_failed : (t : TellsTo {T = T} asked limit before.input.left after.input.left before.output.taken mid.taken (Err stop.Read)) → Rose before.input.faults after.input.faults → Telling t.text before.output after.output (Some ReadFault) status → IsStatsRun asked limit before after status
+  read_failed : (t : WritesTo {T = T} asked limit before.input.left after.input.left before.output.taken mid.taken (Err stop.Read)) → Rose before.input.faults after.input.faults → Telling t.text before.output after.output (Some ReadFault) status → IsStatsRun asked limit before after status
   read_failed t rose telling =
       let own : status ≢ 8 → status ≡ 7 = λ no. (telling.told.others no).0 in
       let few = (t.read_fault refl).0 in
@@ -151,7 +151,7 @@ module _ {T : Type 0} (asked : Asked) (limit : ℕ) (before after : Streams) (mi
         others = elim (eight status) [ inl h ↦ inr (inr (inl h)) | inr h ↦ inr (inl (own h)) ];
       }
 
-  too_long : (t : TellsTo {T = T} asked limit before.input.left after.input.left before.output.taken mid.taken (Err stop.TooLong)) → after.input.faults ≡ before.input.faults → Telling t.text before.output after.output (Some InputTooLong) status → IsStatsRun asked limit before after status
+  too_long : (t : WritesTo {T = T} asked limit before.input.left after.input.left before.output.taken mid.taken (Err stop.TooLong)) → after.input.faults ≡ before.input.faults → Telling t.text before.output after.output (Some InputTooLong) status → IsStatsRun asked limit before after status
   too_long t steady telling =
       let own : status ≢ 8 → status ≡ 13 = λ no. (telling.told.others no).0 in
       let full = (t.too_long refl).0 in
@@ -170,7 +170,7 @@ module _ {T : Type 0} (asked : Asked) (limit : ℕ) (before after : Streams) (mi
         others = elim (eight status) [ inl h ↦ inr (inr (inl h)) | inr h ↦ inr (inr (inr (inr (own h)))) ];
       }
 
-  no_memory : (t : TellsTo {T = T} asked limit before.input.left after.input.left before.output.taken mid.taken (Err stop.OutOfMemory)) → after.input.faults ≡ before.input.faults → Telling t.text before.output after.output (Some OutOfMemory) status → IsStatsRun asked limit before after status
+  no_memory : (t : WritesTo {T = T} asked limit before.input.left after.input.left before.output.taken mid.taken (Err stop.OutOfMemory)) → after.input.faults ≡ before.input.faults → Telling t.text before.output after.output (Some OutOfMemory) status → IsStatsRun asked limit before after status
   no_memory t steady telling =
       let own : status ≢ 8 → status ≡ 12 = λ no. (telling.told.others no).0 in
       let none = t.no_memory refl in
@@ -188,7 +188,7 @@ module _ {T : Type 0} (asked : Asked) (limit : ℕ) (before after : Streams) (mi
         others = elim (eight status) [ inl h ↦ inr (inr (inl h)) | inr h ↦ inr (inr (inr (inl (own h)))) ];
       }
 
-  write_failed : (t : TellsTo {T = T} asked limit before.input.left after.input.left before.output.taken mid.taken (Err stop.Write)) → after.input.faults ≡ before.input.faults → Telling t.text before.output after.output (Some WriteFault) status → IsStatsRun asked limit before after status
+  write_failed : (t : WritesTo {T = T} asked limit before.input.left after.input.left before.output.taken mid.taken (Err stop.Write)) → after.input.faults ≡ before.input.faults → Telling t.text before.output after.output (Some WriteFault) status → IsStatsRun asked limit before after status
   write_failed t steady telling =
       let own : status ≢ 8 → status ≡ 8 = λ no. (telling.told.others no).0 in
       let is : status ≡ 8 = elim (eight status) [ inl h ↦ h | inr h ↦ own h ] in
@@ -207,7 +207,7 @@ module _ {T : Type 0} (asked : Asked) (limit : ℕ) (before after : Streams) (mi
         others = inr (inr (inl is));
       }
 
-  pub run_halted : (why : Stop) (t : TellsTo {T = T} asked limit before.input.left after.input.left before.output.taken mid.taken (Err why)) → IsCauseOf {T = T} stop.Read before.input.faults after.input.faults (Err why) → Telling t.text before.output after.output (Some (end_of why)) status
+  pub run_halted : (why : Stop) (t : WritesTo {T = T} asked limit before.input.left after.input.left before.output.taken mid.taken (Err why)) → IsCauseOf {T = T} stop.Read before.input.faults after.input.faults (Err why) → Telling t.text before.output after.output (Some (end_of why)) status
       → IsStatsRun asked limit before after status
   run_halted stop.Read t cause telling = read_failed t (cause.rose refl) telling
   run_halted stop.Write t cause telling = write_failed t (cause.steady (λ e. absurd (cc))) telling
@@ -238,7 +238,7 @@ module _ (asked : Asked) (limit : ℕ) (before after : Streams) (status : ℕ) (
       some (inr (inr (inr (inr h)))) = inr (inr h)
 
 -- a run that halted, once its end was told
-pub run_ended : {T : Type 0} (asked : Asked) (limit : ℕ) (before after : Streams) (mid : Outflow) (status : ℕ) (why : Stop) (end : End) → TellsTo {T = T} asked limit before.input.left after.input.left before.output.taken mid.taken (Err why)
+pub run_ended : {T : Type 0} (asked : Asked) (limit : ℕ) (before after : Streams) (mid : Outflow) (status : ℕ) (why : Stop) (end : End) → WritesTo {T = T} asked limit before.input.left after.input.left before.output.taken mid.taken (Err why)
     → IsCauseOf {T = T} stop.Read before.input.faults after.input.faults (Err why) → IsCauseOf {T = T} stop.Write before.output.faults mid.faults (Err why)
     → end ≡ end_of why
     → Tells mid after.output (Some end) status

@@ -22,7 +22,7 @@ use Rattle.stats_report.specs.Adding.{sum_where, lead_of}
 use Rattle.stats_report.specs.Along.{along, line_by_line}
 use Rattle.stats_report.specs.Spells.{Kept}
 use Rattle.stats_report.specs.Minutes.{minutes_left}
-use Rattle.stats_report.specs.Spots.{Spots, Spot, Counted, by_spot, spot_at, spot_said, rows_in, AreSpotted, counted_at, counted_after, row_counted, minutes_counted}
+use Rattle.stats_report.specs.Spots.{Spots, Spot, Counted, by_spot, spot_at, spot_of_line, rows_in, AreSpotted, counted_at, counted_after, row_counted, minutes_counted}
 use Rattle.stats_report.specs.Summed.{Test, in_zone as of_zone, of_hazard, of_any, opens_in, AreSums, IsKeptOf, IsFit, AreFit, after_line, TakesLawful}
 use Rattle.stats_report.specs.declared.standing.Moment.{Moment}
 use Rattle.stats_report.specs.declared.sums.Sums.{Sums}
@@ -124,7 +124,7 @@ spots_tie s t h =
 
 -- the lines are at different spots
 abbrev AreApart : Line → Line → Type 0
-AreApart a b = is_at (by_spot (spot_said a)) (spot_said b) ≡ false
+AreApart a b = is_at (by_spot (spot_of_line a)) (spot_of_line b) ≡ false
 
 other_spot : (o p : Ordering) → is_eq p ≡ false → is_eq (ordering_then o p) ≡ false
 other_spot Less p h = refl
@@ -137,20 +137,20 @@ events_apart a b h = other_spot (by_place a.zone b.zone) (by_event a.event b.eve
 module _ (m : Moment) where
   unmoved : (es : Spots) (a b : Line) → AreApart b a → counted_at (after_line m es a) b ≡ counted_at es b
   unmoved es a b apart =
-      found_after by_spot spots_total spots_tie (spot_said b) (spot_said a) (counted_then m es a) es
+      found_after by_spot spots_total spots_tie (spot_of_line b) (spot_of_line a) (counted_then m es a) es
       ∙ ap (λ (c : Bool). cond c (Some (counted_then m es a)) (counted_at es b)) apart
 
   abbrev after_as : Spots → Line → Option Counted → Spots
-  after_as es a o = insert_entry by_spot es (spot_said a) (counted_after m.stamp m.from m.issue a o)
+  after_as es a o = insert_entry by_spot es (spot_of_line a) (counted_after m.stamp m.from m.issue a o)
 
   module _ (es : Spots) (a b : Line) (apart : AreApart a b) where
     apart' : AreApart b a
-    apart' = apart_back by_spot spots_total spots_tie (spot_said a) (spot_said b) apart
+    apart' = apart_back by_spot spots_total spots_tie (spot_of_line a) (spot_of_line b) apart
 
     after_both : after_line m (after_line m es a) b ≡ after_line m (after_line m es b) a
     after_both =
         ap (after_as (after_line m es a) b) (unmoved es a b apart')
-        ∙ either_way by_spot spots_total spots_tie (spot_said a) (spot_said b) (counted_then m es a) (counted_then m es b) es apart
+        ∙ either_way by_spot spots_total spots_tie (spot_of_line a) (spot_of_line b) (counted_then m es a) (counted_then m es b) es apart
         ∙ sym (ap (after_as (after_line m es b) a) (unmoved es b a apart))
 
     fit_first : IsFit m es a → IsFit m (after_line m es a) b → IsFit m es b

@@ -24,7 +24,7 @@ use Rattle.event_life.proofs.Members.{find_in}
 use Rattle.event_life.proofs.Puts.{at_key, at_key-parts, rows_after-sorted, put_all-sorted}
 use Rattle.event_life.proofs.Spoken.{breach_in-second, breach_in-first, AreTouching, lawful_of-touches, lawful_first, spoken, row_by_last, row_at-put_all, row_at-rows_after}
 use Rattle.stats_report.specs.Minutes.{greatest, governing, has_effect, in_effect, minutes_of, minutes_left}
-use Rattle.stats_report.specs.Spots.{Spots, by_spot, spot_of, spot_said, rows_in, AreSpotted, AreExact, IsCounted, counted_at, row_counted, minutes_counted, row_left, counted_after, changed, Spot, Counted}
+use Rattle.stats_report.specs.Spots.{Spots, by_spot, spot_of, spot_of_line, rows_in, AreSpotted, AreExact, IsCounted, counted_at, row_counted, minutes_counted, row_left, counted_after, changed, Spot, Counted}
 use Rattle.stats_report.specs.Spells.{moment_of}
 use Rattle.stats_report.specs.Summed.{IsFit, AreFit}
 use Rattle.stats_report.specs.declared.standing.Moment.{Moment}
@@ -183,7 +183,7 @@ module _ (stamp from : ℕ) (products : List Product) (p : Product) (is : from �
   unfolding row_left
   left_zone o line = refl
 
-  left_spot : (o : Option Row) (line : Line) → spot_of (row_left o line p.issue) ≡ spot_said line
+  left_spot : (o : Option Row) (line : Line) → spot_of (row_left o line p.issue) ≡ spot_of_line line
   unfolding row_left
   left_spot o line = refl
 
@@ -197,14 +197,14 @@ module _ (stamp from : ℕ) (products : List Product) (p : Product) (is : from �
       let found : Option Counted = counted_at es line in
       let row : row_counted found ≡ row_at before line.event line.zone = row_found es moved.spotted line.event line.zone ∙ ap (λ (rows : List Row). row_at rows line.event line.zone) moved.rows ∙ unmoved before p.issue spoken_lines done line lines parts in
       let own : IsOwn line (row_counted found) = subst (IsOwn line) (sym row) (own_by line (row_at before line.event line.zone) refl) in
-      let minutes = found_minutes line found row own (of_found IsMoved (is_at (by_spot (spot_said line))) es moved.moved) in
+      let minutes = found_minutes line found row own (of_found IsMoved (is_at (by_spot (spot_of_line line))) es moved.moved) in
       let left = ap (minutes_left stamp from) row in
       let within = left_within products p line.event line.zone from is stamp in
       let after = counted_after stamp from p.issue line found in
       let row_is : after.row ≡ row_after before p.issue line = ap (λ (o : Option Row). row_left o line p.issue) row ∙ left_row line in
       let event_is : after.row.event ≡ line.event = left_event (row_counted found) line in
       let zone_is : after.row.zone ≡ line.zone = left_zone (row_counted found) line in
-      let spot_is : spot_of after.row ≡ spot_said line = left_spot (row_counted found) line in
+      let spot_is : spot_of after.row ≡ spot_of_line line = left_spot (row_counted found) line in
       let own_left = ap (λ (e : Event). minutes_left stamp from (row_at before e after.row.zone)) event_is ∙ ap (λ (z : Place). minutes_left stamp from (row_at before line.event z)) zone_is in
       let own_minutes = ap (λ (e : Event). minutes_of stamp products e after.row.zone) event_is ∙ ap (λ (z : Place). minutes_of stamp products line.event z) zone_is in
       let new : IsMoved after = omega (arith, minutes, left, within, own_left, own_minutes) in
@@ -213,7 +213,7 @@ module _ (stamp from : ℕ) (products : List Product) (p : Product) (is : from �
       record {
         rows = ap rows_in (sym same) ∙ rows_put after es moved.spotted ∙ ap (λ (rows : List Row). put after.row rows) moved.rows ∙ ap (λ (r : Row). put r (put_all before p.issue done before)) row_is ∙ sym (put_all_last before p.issue done line before);
         spotted = subst (λ (es : Spots). AreSpotted es) same (spotted_put after es moved.spotted);
-        moved = each_put IsMoved (spot_said line) after es new moved.moved;
+        moved = each_put IsMoved (spot_of_line line) after es new moved.moved;
       }
 
   all_steps : (done lines : List Line) (es : Spots) → all_lawful ≡ done ++ lines → Moved (put_all before p.issue done before) es
@@ -325,7 +325,7 @@ module _ (stamp from : ℕ) (products : List Product) (p : Product) (is : from �
       let found : Option Counted = counted_at es line in
       let row : row_counted found ≡ row_at before line.event line.zone = row_found es moved.spotted line.event line.zone ∙ ap (λ (rows : List Row). row_at rows line.event line.zone) moved.rows ∙ unmoved before p.issue spoken_lines done line lines parts in
       let own : IsOwn line (row_counted found) = subst (IsOwn line) (sym row) (own_by line (row_at before line.event line.zone) refl) in
-      let minutes = found_minutes line found row own (of_found IsMoved (is_at (by_spot (spot_said line))) es moved.moved) in
+      let minutes = found_minutes line found row own (of_found IsMoved (is_at (by_spot (spot_of_line line))) es moved.moved) in
       let left = ap (minutes_left stamp from) row in
       let within = left_within products p line.event line.zone from is stamp in
       let lawful_line : IsLawful line = all_of_next IsLawful done line lines (subst (AllByRecursion IsLawful) parts (all_lawful_from [] spoken_lines)) in

@@ -19,7 +19,7 @@ use Rattle.product_decoder.specs.declared.types.Opening.{Opening}
 use Rattle.stats_report.specs.Adding.{sum_where, lead_of}
 use Rattle.stats_report.specs.Minutes.{cut_at, minutes_left}
 use Rattle.stats_report.specs.Spells.{spell_left, left_of, begin_printed, spell_after, gain_of, gained}
-use Rattle.stats_report.specs.Spots.{Spots, Spot, Counted, by_spot, spot_of, spot_said, rows_in, AreSpotted, counted_at, row_counted, minutes_counted, row_left, counted_after}
+use Rattle.stats_report.specs.Spots.{Spots, Spot, Counted, by_spot, spot_of, spot_of_line, rows_in, AreSpotted, counted_at, row_counted, minutes_counted, row_left, counted_after}
 use Rattle.stats_report.specs.Summed.{Test, passes, opens_in, AreSums, IsFit, after_line}
 use Rattle.stats_report.specs.declared.standing.Moment.{Moment}
 use Rattle.stats_report.specs.declared.standing.Spell.{Spell}
@@ -148,7 +148,7 @@ module _ (m : Moment) (es : Spots) (line : Line) where
   abbrev pub counted_then : Counted
   counted_then = counted_after m.stamp m.from m.issue line (counted_at es line)
 
-  pub own_spot : spot_of counted_then.row ≡ spot_said line
+  pub own_spot : spot_of counted_then.row ≡ spot_of_line line
   unfolding row_left
   own_spot = refl
 

@@ -55,7 +55,7 @@ pub record ReadsTo {T : Type 0} (asked : Asked) (limit : ℕ) (left left' : Opti
   pub unwritten : IsErrOf result stop.Write → ⊥
 
 -- A run until its end is told: what was read, the text that was to be written, and what was written of it.
-pub record TellsTo {T : Type 0} (asked : Asked) (limit : ℕ) (left left' taken taken' : Option (List ℕ)) (result : Result T Stop) : Type 0 where
+pub record WritesTo {T : Type 0} (asked : Asked) (limit : ℕ) (left left' taken taken' : Option (List ℕ)) (result : Result T Stop) : Type 0 where
   pub read : List ℕ
   pub text : List ℕ
   pub written : List ℕ

@@ -35,8 +35,8 @@ spot_at e z = record { zone = z; event = e }
 abbrev pub spot_of : Row → Spot
 spot_of r = spot_at r.event r.zone
 
-abbrev pub spot_said : Line → Spot
-spot_said line = spot_at line.event line.zone
+abbrev pub spot_of_line : Line → Spot
+spot_of_line line = spot_at line.event line.zone
 
 abbrev pub Spots : Type 0
 Spots = List (Spot × Counted)
@@ -61,7 +61,7 @@ pub record IsCounted (stamp : ℕ) (products : List Product) (es : Spots) : Type
 -- What a line changes.
 
 abbrev pub counted_at : Spots → Line → Option Counted
-counted_at es line = lookup (is_at (by_spot (spot_said line))) es
+counted_at es line = lookup (is_at (by_spot (spot_of_line line))) es
 
 abbrev pub row_counted : Option Counted → Option Row
 row_counted before = option_map (λ (c : Counted). c.row) before
@@ -82,4 +82,4 @@ counted_after stamp from t line before = record {
 }
 
 abbrev pub changed : ℕ → ℕ → ℕ → Spots → Line → Spots
-changed stamp from t es line = insert_entry by_spot es (spot_said line) (counted_after stamp from t line (counted_at es line))
+changed stamp from t es line = insert_entry by_spot es (spot_of_line line) (counted_after stamp from t line (counted_at es line))

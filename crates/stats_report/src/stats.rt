@@ -3,7 +3,7 @@ ghost use Rattle.std.specs.Prelude.{◌≤◌};
 ghost use Rattle.byte_streams.specs.Flows.{streams};
 ghost use Rattle.program_ends.specs.Lines.{most_bytes};
 ghost use Rattle.program_ends.specs.Steps.{IsCauseOf};
-ghost use Rattle.stats_report.specs.Readings.{TellsTo};
+ghost use Rattle.stats_report.specs.Readings.{WritesTo};
 ghost use Rattle.stats_report.specs.Runs.{DoesAsAsked};
 
 use crate::input::count_input;
@@ -17,7 +17,7 @@ use program_ends::{End, Stop, end_at_once, end_run};
 use std::alloc::Global;
 
 /// Reads an input of at most `limit` bytes to its end, and then writes its statistics.
-fn tell_stats<S: Source, K: Sink>(
+fn write_stats<S: Source, K: Sink>(
     alloc: Global,
     asked: &Asked,
     limit: usize,
@@ -25,7 +25,7 @@ fn tell_stats<S: Source, K: Sink>(
     output: &mut K,
 ) -> Result<(), Stop>
     requires { limit ≤ most_bytes }
-    ensures run { TellsTo asked.now limit (S.inflow input.old).left (S.inflow input.new).left
+    ensures run { WritesTo asked.now limit (S.inflow input.old).left (S.inflow input.new).left
         (K.outflow output.old).taken (K.outflow output.new).taken result }
     ensures read { IsCauseOf Stop.Read (S.inflow input.old).faults (S.inflow input.new).faults
         result }
@@ -60,7 +60,7 @@ pub fn run_stats<S: Source, K: Sink>(
     let Some(asked) = asked_of(words) else {
         return end_at_once(output, End::Usage);
     };
-    match tell_stats(alloc, &asked, limit, input, output) {
+    match write_stats(alloc, &asked, limit, input, output) {
         Ok(()) => 0,
         Err(stop) => end_run(output, Some(End::from(stop))),
     }

@@ -16,7 +16,7 @@ use Rattle.hazard_types.specs.declared.codes.Action.TheVariants as action
 use Rattle.hazard_types.specs.declared.hazard.Sig.{Sig}
 use Rattle.hazard_types.specs.declared.hazard.Sig.TheVariants as sig
 use Rattle.hazard_types.specs.declared.line.Vtec.{Vtec}
-use Rattle.hazard_types.specs.Codes.{value_beside}
+use Rattle.hazard_types.specs.Codes.{value_for_code}
 use Rattle.hazard_types.specs.Tables.{class_rows, action_rows, sig_rows}
 use Rattle.hazard_types.specs.Letters.{class_code, action_code, sig_code}
 use Rattle.hazard_types.specs.Characters.{is_office}
@@ -127,13 +127,13 @@ columns_of v two office letters number begin end =
     record {
       size = size;
       separated = record { before_class = s0.0; before_action = s2.0; before_office = s4.0; before_phenomenon = s6.0; before_significance = s8.0; before_number = s10.0; before_begin = s12.0; before_end = s14.0; behind = s16.0 };
-      class = ap (value_beside class_rows) s1.0 ∙ class_found v.class;
-      action = ap (value_beside action_rows) s3.0 ∙ action_found v.action;
+      class = ap (value_for_code class_rows) s1.0 ∙ class_found v.class;
+      action = ap (value_for_code action_rows) s3.0 ∙ action_found v.action;
       office = s5.0;
       is_office = office;
       phenomenon = s7.0;
       are_letters = letters;
-      significance = ap (value_beside sig_rows) s9.0 ∙ sig_found v.hazard.sig;
+      significance = ap (value_for_code sig_rows) s9.0 ∙ sig_found v.hazard.sig;
       number = s11.0;
       is_number = number;
       begin = subst (λ (text : List ℕ). IsTime text v.begin) (sym s13.0) begin;
@@ -271,9 +271,9 @@ vtec_hit b v h =
     let test : has_columns b ≡ true = and_from _ _ size separated in
     let office : office_at (slice_range b 7 11) ≡ Some v.office = ap office_at h.office ∙ rw h.is_office refl in
     let phen : phenomenon_at (slice_range b 12 14) ≡ Some v.hazard.phen = ap phenomenon_at h.phenomenon ∙ rw h.are_letters refl in
-    let class : value_beside class_rows (slice_range b 1 2) ≡ Some v.class = h.class in
-    let action : value_beside action_rows (slice_range b 3 6) ≡ Some v.action = h.action in
-    let sig : value_beside sig_rows (slice_range b 15 16) ≡ Some v.hazard.sig = h.significance in
+    let class : value_for_code class_rows (slice_range b 1 2) ≡ Some v.class = h.class in
+    let action : value_for_code action_rows (slice_range b 3 6) ≡ Some v.action = h.action in
+    let sig : value_for_code sig_rows (slice_range b 15 16) ≡ Some v.hazard.sig = h.significance in
     let etn : number_at (slice_range b 17 21) ≡ Some v.etn = ap number_at h.number ∙ number_hit v.etn h.is_number in
     let begin : time_at (slice_range b 22 34) ≡ Some v.begin = time_hit _ v.begin h.begin in
     let end : time_at (slice_range b 35 47) ≡ Some v.end = time_hit _ v.end h.end in

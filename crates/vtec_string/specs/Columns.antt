@@ -9,7 +9,7 @@ use Rattle.hazard_types.specs.declared.codes.Class.{Class}
 use Rattle.hazard_types.specs.declared.codes.Action.{Action}
 use Rattle.hazard_types.specs.declared.hazard.Sig.{Sig}
 use Rattle.hazard_types.specs.declared.line.Vtec.{Vtec}
-use Rattle.hazard_types.specs.Codes.{value_beside}
+use Rattle.hazard_types.specs.Codes.{value_for_code}
 use Rattle.hazard_types.specs.Tables.{class_rows, action_rows, sig_rows}
 use Rattle.hazard_types.specs.Letters.{class_code, action_code, sig_code}
 
@@ -29,13 +29,13 @@ pub record AreSeparated (bytes : List ℕ) : Type 0 where
 pub record IsVtec (bytes : List ℕ) (v : Vtec) : Type 0 where
   pub size : length bytes ≡ 48
   pub separated : AreSeparated bytes
-  pub class : value_beside class_rows (slice_range bytes 1 2) ≡ Some v.class
-  pub action : value_beside action_rows (slice_range bytes 3 6) ≡ Some v.action
+  pub class : value_for_code class_rows (slice_range bytes 1 2) ≡ Some v.class
+  pub action : value_for_code action_rows (slice_range bytes 3 6) ≡ Some v.action
   pub office : slice_range bytes 7 11 ≡ v.office
   pub is_office : IsTrue (is_office v.office)
   pub phenomenon : slice_range bytes 12 14 ≡ v.hazard.phen
   pub are_letters : IsTrue (are_letters v.hazard.phen)
-  pub significance : value_beside sig_rows (slice_range bytes 15 16) ≡ Some v.hazard.sig
+  pub significance : value_for_code sig_rows (slice_range bytes 15 16) ≡ Some v.hazard.sig
   pub number : slice_range bytes 17 21 ≡ four_digits v.etn
   pub is_number : v.etn ≤ 9999
   pub begin : IsTime (slice_range bytes 22 34) v.begin
@@ -88,5 +88,5 @@ values (Some c) (Some a) (Some o) (Some p) (Some s) (Some n) (Some b) (Some e) =
 unfoldable pub vtec_of : List ℕ → Option Vtec
 vtec_of b =
     if has_columns b
-    then values (value_beside class_rows (slice_range b 1 2)) (value_beside action_rows (slice_range b 3 6)) (office_at (slice_range b 7 11)) (phenomenon_at (slice_range b 12 14)) (value_beside sig_rows (slice_range b 15 16)) (number_at (slice_range b 17 21)) (time_at (slice_range b 22 34)) (time_at (slice_range b 35 47))
+    then values (value_for_code class_rows (slice_range b 1 2)) (value_for_code action_rows (slice_range b 3 6)) (office_at (slice_range b 7 11)) (phenomenon_at (slice_range b 12 14)) (value_for_code sig_rows (slice_range b 15 16)) (number_at (slice_range b 17 21)) (time_at (slice_range b 22 34)) (time_at (slice_range b 35 47))
     else None

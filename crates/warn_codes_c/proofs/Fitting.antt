@@ -7,7 +7,7 @@ use Rattle.hazard_types.proofs.Years.{days_fit}
 use Rattle.hazard_types.specs.Calendar.{IsCivil, minute_of}
 use Rattle.hazard_types.specs.declared.calendar.Civil.{Civil}
 use Rattle.hazard_types.specs.Characters.{is_office, is_location}
-use Rattle.hazard_types.specs.Codes.{value_beside}
+use Rattle.hazard_types.specs.Codes.{value_for_code}
 use Rattle.hazard_types.specs.Letters.{class_code, action_code, severity_code, status_code}
 use Rattle.hazard_types.specs.Orders.{sig_letter}
 use Rattle.hazard_types.specs.Tables.{class_rows, severity_rows}
@@ -57,7 +57,7 @@ time_back n t h = elim (cases_Bool (n == 4294967295)) [
 
 -- ---- P-VTEC
 
-class_hit : (c : Class) → value_beside class_rows (slice_index (class_code c) 0 ∷ []) ≡ Some c
+class_hit : (c : Class) → value_for_code class_rows (slice_index (class_code c) 0 ∷ []) ≡ Some c
 unfolding class_rows
 class_hit class.O = refl
 class_hit class.T = refl
@@ -137,7 +137,7 @@ vtec_may f v h =
 
 -- ---- H-VTEC
 
-severity_hit : (s : Severity) → value_beside severity_rows (slice_index (severity_code s) 0 ∷ []) ≡ Some s
+severity_hit : (s : Severity) → value_for_code severity_rows (slice_index (severity_code s) 0 ∷ []) ≡ Some s
 unfolding severity_rows
 severity_hit severity.N = refl
 severity_hit severity.Zero = refl

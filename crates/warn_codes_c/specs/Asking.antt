@@ -1,7 +1,7 @@
 -- What is asked of the products of a stream, and answered.
 use Rattle.std.specs.Prelude.{◌≡◌, ◌⊎◌, ◌==◌, ℕ, List, [], ◌∷◌, ◌++◌, length, map, flat_map, nat_lt, Option, Some, None, if◌then◌else◌}
 use Rattle.hazard_types.specs.Characters.{is_office}
-use Rattle.hazard_types.specs.Codes.{value_beside}
+use Rattle.hazard_types.specs.Codes.{value_for_code}
 use Rattle.hazard_types.specs.Tables.{class_rows}
 use Rattle.hazard_types.specs.declared.codes.Class.{Class}
 use Rattle.event_life.specs.Products.{Product, rows_of}
@@ -60,7 +60,7 @@ answer_by (Some c) (Some o) (Some q) stream = Some (rows_for q (numbers_from 1 (
 
 -- the rows that answer a question about a stream, where class, office and question are such
 abbrev pub answer : AskedFields → List ℕ → Option (List RowFields)
-answer asked stream = answer_by (value_beside class_rows (asked.class ∷ [])) (office_at asked.office) (question_of asked.question asked.minute) stream
+answer asked stream = answer_by (value_for_code class_rows (asked.class ∷ [])) (office_at asked.office) (question_of asked.question asked.minute) stream
 
 -- what becomes of the buffer and the count
 abbrev pub Tells : Option (List RowFields) → ℕ → List RowFields → List RowFields → ℕ → ℕ → Type 0

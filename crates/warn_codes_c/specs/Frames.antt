@@ -98,7 +98,7 @@ abbrev pub fit : FrameRows → List SegmentFields → List ZoneFields → List L
 fit rows segments zones lines = fits rows.segments segments && fits rows.zones zones && fits rows.lines lines
 
 -- what becomes of the buffers and the fields where a frame was read: its rows are written where each buffer has room for its own
-pub record TellsRows (f : Frame) (status : ℕ) (segments segments' : List SegmentFields) (zones zones' : List ZoneFields) (lines lines' : List LineFields) (out : FrameFields) : Type 0 where
+pub record FillsRows (f : Frame) (status : ℕ) (segments segments' : List SegmentFields) (zones zones' : List ZoneFields) (lines lines' : List LineFields) (out : FrameFields) : Type 0 where
   pub ends : status ≡ (if fit (rows_of f) segments zones lines then 0 else 2)
   pub segment_rows : segments' ≡ placed (fit (rows_of f) segments zones lines) (rows_of f).segments segments
   pub zone_rows : zones' ≡ placed (fit (rows_of f) segments zones lines) (rows_of f).zones zones
@@ -109,14 +109,14 @@ pub record TellsRows (f : Frame) (status : ℕ) (segments segments' : List Segme
 abbrev pub AreKept : List SegmentFields → List SegmentFields → List ZoneFields → List ZoneFields → List LineFields → List LineFields → Type 0
 AreKept segments segments' zones zones' lines lines' = (segments' ≡ segments) × (zones' ≡ zones) × (lines' ≡ lines)
 
-abbrev pub TellsFrame : Result Frame FrameFault → ℕ → List SegmentFields → List SegmentFields → List ZoneFields → List ZoneFields → List LineFields → List LineFields → FrameFields → Type 0
-TellsFrame (Ok f) status segments segments' zones zones' lines lines' out = TellsRows f status segments segments' zones zones' lines lines' out
-TellsFrame (Err x) status segments segments' zones zones' lines lines' out = (status ≡ (frame_fault x).0) × AreKept segments segments' zones zones' lines lines' × (out ≡ fault_fields (frame_fault x).1)
+abbrev pub FillsFrame : Result Frame FrameFault → ℕ → List SegmentFields → List SegmentFields → List ZoneFields → List ZoneFields → List LineFields → List LineFields → FrameFields → Type 0
+FillsFrame (Ok f) status segments segments' zones zones' lines lines' out = FillsRows f status segments segments' zones zones' lines lines' out
+FillsFrame (Err x) status segments segments' zones zones' lines lines' out = (status ≡ (frame_fault x).0) × AreKept segments segments' zones zones' lines lines' × (out ≡ fault_fields (frame_fault x).1)
 
 -- it was read, unless memory ran out, which changes nothing
 abbrev pub ReadsFrame : Result Frame FrameFault → ℕ → List SegmentFields → List SegmentFields → List ZoneFields → List ZoneFields → List LineFields → List LineFields → FrameFields → FrameFields → Type 0
 ReadsFrame answer status segments segments' zones zones' lines lines' out out' =
-    TellsFrame answer status segments segments' zones zones' lines lines' out' ⊎ ((status ≡ 1) × AreKept segments segments' zones zones' lines lines' × (out' ≡ out))
+    FillsFrame answer status segments segments' zones zones' lines lines' out' ⊎ ((status ≡ 1) × AreKept segments segments' zones zones' lines lines' × (out' ≡ out))
 
 -- what was read is told, or the want of memory
 abbrev pub IsToldFrame : Result Frame (Or FrameFault) → ℕ → List SegmentFields → List SegmentFields → List ZoneFields → List ZoneFields → List LineFields → List LineFields → FrameFields → FrameFields → Type 0

@@ -23,13 +23,13 @@ ugc_fault (BadRange at) = (11, at)
 ugc_fault CutShort = (12, 0)
 
 -- what becomes of the buffer and the fields where an answer was read
-abbrev pub TellsUgc : Result UgcRead UgcFault → ℕ → List ZoneFields → List ZoneFields → UgcFields → Type 0
-TellsUgc (Ok u) status old new out = (status ≡ (if fits (map zone_fields u.zones) old then 0 else 2)) × (new ≡ handed (map zone_fields u.zones) old) × (out ≡ ugc_fields u)
-TellsUgc (Err f) status old new out = (status ≡ (ugc_fault f).0) × (new ≡ old) × (out ≡ fault_fields (ugc_fault f).1)
+abbrev pub FillsUgc : Result UgcRead UgcFault → ℕ → List ZoneFields → List ZoneFields → UgcFields → Type 0
+FillsUgc (Ok u) status old new out = (status ≡ (if fits (map zone_fields u.zones) old then 0 else 2)) × (new ≡ handed (map zone_fields u.zones) old) × (out ≡ ugc_fields u)
+FillsUgc (Err f) status old new out = (status ≡ (ugc_fault f).0) × (new ≡ old) × (out ≡ fault_fields (ugc_fault f).1)
 
 -- it was read, unless memory ran out, which changes nothing
 abbrev pub ReadsUgc : Result UgcRead UgcFault → ℕ → List ZoneFields → List ZoneFields → UgcFields → UgcFields → Type 0
-ReadsUgc answer status old new out out' = TellsUgc answer status old new out' ⊎ ((status ≡ 1) × (new ≡ old) × (out' ≡ out))
+ReadsUgc answer status old new out out' = FillsUgc answer status old new out' ⊎ ((status ≡ 1) × (new ≡ old) × (out' ≡ out))
 
 -- what was read is told, or the want of memory
 abbrev pub IsToldUgc : Result UgcRead (Or UgcFault) → ℕ → List ZoneFields → List ZoneFields → UgcFields → UgcFields → Type 0

@@ -1,7 +1,7 @@
 -- The values that fields have.
 use Rattle.std.specs.Prelude.{ℕ, ◌==◌, List, [], ◌∷◌, Option, Some, None, nat_le, nat_lt, if◌then◌else◌}
 use Rattle.hazard_types.specs.Characters.{is_office, is_location}
-use Rattle.hazard_types.specs.Codes.{value_beside}
+use Rattle.hazard_types.specs.Codes.{value_for_code}
 use Rattle.hazard_types.specs.Tables.{class_rows, action_rows, sig_rows, severity_rows, status_rows}
 use Rattle.hazard_types.specs.Places.{are_letters}
 use Rattle.hazard_types.specs.declared.codes.Action.{Action}
@@ -41,7 +41,7 @@ vtec_by (Some c) (Some a) (Some o) (Some p) (Some s) (Some n) (Some b) (Some e) 
 
 -- the values that have these fields
 unfoldable pub vtec_of : VtecFields → Option Vtec
-vtec_of f = vtec_by (value_beside class_rows (f.class ∷ [])) (value_beside action_rows f.action) (office_at f.office) (letters_at f.phenomenon) (value_beside sig_rows (f.significance ∷ [])) (number_at f.number) (time_of f.begin) (time_of f.end)
+vtec_of f = vtec_by (value_for_code class_rows (f.class ∷ [])) (value_for_code action_rows f.action) (office_at f.office) (letters_at f.phenomenon) (value_for_code sig_rows (f.significance ∷ [])) (number_at f.number) (time_of f.begin) (time_of f.end)
 
 abbrev pub location_at : List ℕ → Option (List ℕ)
 location_at text = if is_location text then Some text else None
@@ -57,4 +57,4 @@ flood_by (Some l) (Some s) (Some c) (Some b) (Some t) (Some e) None = None
 flood_by (Some l) (Some s) (Some c) (Some b) (Some t) (Some e) (Some f) = Some (record { site = l; severity = s; cause = c; begin = b; crest = t; end = e; status = f })
 
 unfoldable pub flood_of : FloodFields → Option Flood
-flood_of f = flood_by (location_at f.location) (value_beside severity_rows (f.severity ∷ [])) (letters_at f.cause) (time_of f.begin) (time_of f.crest) (time_of f.end) (value_beside status_rows f.record_status)
+flood_of f = flood_by (location_at f.location) (value_for_code severity_rows (f.severity ∷ [])) (letters_at f.cause) (time_of f.begin) (time_of f.crest) (time_of f.end) (value_for_code status_rows f.record_status)

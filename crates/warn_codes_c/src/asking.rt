@@ -138,7 +138,7 @@ pub fn rows_for(
 
 /// Writes the count of the rows to `needed`, and the rows to `out` if it has room for all of them.
 /// Returns the status.
-pub fn tell_rows(rows: &[RowFields], out: &mut [RowFields], needed: &mut usize) -> u32
+pub fn fill_rows(rows: &[RowFields], out: &mut [RowFields], needed: &mut usize) -> u32
     ensures { Answers (Some rows.now) result out.old out.new needed.old needed.new }
 {
     *needed = rows.len();
@@ -176,5 +176,5 @@ pub extern "C" fn warn_codes_c_ask(
     let Ok(found) = rows_for(alloc, &archive, &question) else {
         return NO_MEMORY;
     };
-    tell_rows(found.as_slice(), rows, needed)
+    fill_rows(found.as_slice(), rows, needed)
 }

@@ -271,7 +271,7 @@ fn hand_out_rows(
 
 /// Writes what was read, the fields to `out` and the rows to the buffers if each has room for its
 /// own, and returns the status.
-fn tell_frame(
+fn fill_frame(
     alloc: Global,
     answer: Result<Frame, Or<FrameFault>>,
     segments: &mut [SegmentFields],
@@ -333,5 +333,5 @@ pub extern "C" fn warn_codes_c_read_frame(
         zones.new lines.old lines.new out.old out.new }
 {
     let answer = read_frame(alloc, text);
-    tell_frame(alloc, answer, segments, zones, lines, out)
+    fill_frame(alloc, answer, segments, zones, lines, out)
 }

@@ -1,13 +1,13 @@
 //! Readers that stay open between calls.
 ghost use Rattle.std.specs.Prelude.{◌≡◌, Option, Some, None, IfSome, MatchOption, IsSomeAnd, [], ◌∷◌, false};
-ghost use Rattle.hazard_types.specs.Codes.{value_beside};
+ghost use Rattle.hazard_types.specs.Codes.{value_for_code};
 ghost use Rattle.hazard_types.specs.Tables.{class_rows};
 ghost use Rattle.warn_codes_c.specs.Archive.{Pushed, Finished};
 ghost use Rattle.warn_codes_c.specs.Asking.{office_at, question_of, Answers};
 ghost use Rattle.warn_codes_c.specs.OpenReaders.{taken_in, Opens, GoesOn, told_by, IsFresh};
 
 use crate::archive::Archive;
-use crate::asking::{question_of, rows_for, tell_rows};
+use crate::asking::{fill_rows, question_of, rows_for};
 use crate::handle::{Handle, ReaderFields};
 use crate::loose::Loose;
 use crate::rows::RowFields;
@@ -72,7 +72,7 @@ pub extern "C" fn warn_codes_c_open(
     office: &[u8; 4],
     class: u8,
 ) -> u32
-    ensures { Opens (taken_in reader.old) (value_beside class_rows (class ∷ []))
+    ensures { Opens (taken_in reader.old) (value_for_code class_rows (class ∷ []))
         (office_at office.now) result (taken_in reader.new) }
 {
     if reader.is_open == 1 {
@@ -155,7 +155,7 @@ pub extern "C" fn warn_codes_c_tell(
     let found = rows_for(alloc, &archive, &question);
     *reader = opened(archive);
     match found {
-        Ok(found) => tell_rows(found.as_slice(), rows, needed),
+        Ok(found) => fill_rows(found.as_slice(), rows, needed),
         Err(_) => NO_MEMORY,
     }
 }

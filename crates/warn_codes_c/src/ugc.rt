@@ -92,7 +92,7 @@ fn fault_fields(fault_at: usize) -> UgcFields
 
 /// Writes what was read, the fields to `out` and the zones to the buffer if it has room for all of
 /// them, and returns the status.
-fn tell_ugc(
+fn fill_ugc(
     alloc: Global,
     answer: Result<UgcRead, Or<UgcFault>>,
     zones: &mut [ZoneFields],
@@ -145,5 +145,5 @@ pub extern "C" fn warn_codes_c_read_ugc(
     ensures exact { ReadsUgc (ugc_of text.now) result zones.old zones.new out.old out.new }
 {
     let answer = read_ugc(alloc, text);
-    tell_ugc(alloc, answer, zones, out)
+    fill_ugc(alloc, answer, zones, out)
 }

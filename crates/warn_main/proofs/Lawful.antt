@@ -8,7 +8,7 @@ use Rattle.office_core.specs.Agreement.{ReadsAsTheBoard}
 use Rattle.office_core.specs.Histories.{StandOnce}
 use Rattle.office_core.specs.Histories.{entries_of as requests_of}
 use Rattle.office_core.specs.State.{State}
-use Rattle.office_journal.specs.Given.{Gave, history_behind, with_given}
+use Rattle.office_journal.specs.Given.{Gave, history_after, with_given}
 use Rattle.office_journal.specs.Histories.{History, IsHistory}
 use Rattle.office_journal.specs.Kept.{HasHistory, entries_of, gate_of, state_of}
 use Rattle.office_journal.specs.Outcomes.{IsAsBefore}
@@ -76,7 +76,7 @@ module _ {D : Type 0} (d : Disks D) where
     line_goes s (Some (c ∷ line)) w next file h is carries = asked s.kept next.kept file h carries is.0 (line_asks (Some (c ∷ line))) w.text w.gave is.3
 
     pub lines_go : (s : Scripted (KeptOffice D d) C) (lines : List (List ℕ)) (said : List Said) (z : Scripted (KeptOffice D d) C) (file : List ℕ) (h : History)
-        → Goes d k s lines said z → Carries s.kept file h → Carries z.kept file (history_behind h (given_by said))
+        → Goes d k s lines said z → Carries s.kept file h → Carries z.kept file (history_after h (given_by said))
     lines_go s [] [] z file h goes carries =
         subst (λ (x : Scripted (KeptOffice D d) C). Carries x.kept file h) (sym goes) carries
     lines_go s [] (w ∷ said) z file h goes carries = absurd goes

@@ -14,7 +14,7 @@ use Rattle.program_ends.specs.Ends.{Telling, TellsText, own_status, status_of}
 use Rattle.program_ends.specs.Runs.{IsLinesRun}
 use Rattle.program_ends.specs.declared.ends.End.{End}
 use Rattle.program_ends.specs.declared.ends.End.TheVariants.{Usage, SettingsRefused, AlreadyKept, NoJournal, Damaged, ReadFault, WriteFault, DiskFault, PortFault, ClockOut, OutOfMemory, InputTooLong, JournalFull}
-use Rattle.desk_commands.specs.Commands.{AreTold, IsInitRun, IsWhyUnmade, TellsBoard, UpgradeOutcome, joined}
+use Rattle.desk_commands.specs.Commands.{AreTold, IsInitRun, IsWhyUnmade, WritesBoard, UpgradeOutcome, joined}
 use Rattle.desk_commands.specs.Opening.{IsUnopenedRun, IsWhy}
 use Rattle.desk_drill.specs.Runs.{IsDrillRun}
 use Rattle.desk_program.specs.Commands.{IsNoCommand, IsUnopened, SameClock, SameDisk}
@@ -84,7 +84,7 @@ drilled : (number count : ℕ) (old new : Outflow) (status : ℕ) → IsDrillRun
 drilled number count old new status (inl run) = told_well run.0 old new status run.2
 drilled number count old new status (inr telling) = told_lacking [] old new status (Some OutOfMemory) refl telling
 
-board_told : (s : State) (at : ℤ) (old new : Outflow) (status : ℕ) → TellsBoard s at old new status → status ≢ 10
+board_told : (s : State) (at : ℤ) (old new : Outflow) (status : ℕ) → WritesBoard s at old new status → status ≢ 10
 board_told s at old new status (inl run) = told_well (board_text (shown_at (nat_abs at) s.rows)) old new status run.1
 board_told s at old new status (inr (inl run)) = told_as [] old new status (Some ClockOut) (Some ClockOut) refl (λ ten. omega (arith, ten)) run.1
 board_told s at old new status (inr (inr telling)) = told_lacking [] old new status (Some OutOfMemory) refl telling

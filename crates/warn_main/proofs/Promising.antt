@@ -10,7 +10,7 @@ use Rattle.office_core.specs.Agreement.{ReadsAsTheBoard}
 use Rattle.office_core.specs.Histories.{StandOnce, entries_of}
 use Rattle.office_core.specs.State.{State}
 use Rattle.office_journal.specs.Changes.{Change, Leaves}
-use Rattle.office_journal.specs.Given.{MayPend, history_behind}
+use Rattle.office_journal.specs.Given.{MayPend, history_after}
 use Rattle.office_journal.specs.Grown.{KeepsHistory, NonePends}
 use Rattle.office_journal.specs.Histories.{History, IsHistory}
 use Rattle.office_journal.specs.Kept.{HasHistory, disk_of, state_of}
@@ -40,8 +40,8 @@ rose may failed pending file last c which cause (inl image) = inl image
 rose may failed None file last c which cause (inr (change, is, image)) = absurd (cc)
 rose may failed (Some one) file last c which cause (inr (change, is, image)) = inr (change, (subst (λ (o : Option Change). IfSome o may) is which, cause refl), image)
 
-one_history : {D : Type 0} {d : Disks D} (office : Office d) (file : List ℕ) (found : History) → IsHistory file (history_behind found office.given) office.state
-    → StandOnce (entries_of (history_behind found office.given).entries) → ReadsAsTheBoard office.state → IsOneHistory office file found
+one_history : {D : Type 0} {d : Disks D} (office : Office d) (file : List ℕ) (found : History) → IsHistory file (history_after found office.given) office.state
+    → StandOnce (entries_of (history_after found office.given).entries) → ReadsAsTheBoard office.state → IsOneHistory office file found
 one_history office file found legal once reads = record {
   accepted = entries_behind found office.given;
   legal = legal;
@@ -67,7 +67,7 @@ module _ {D C : Type 0} (d : Disks D) (before after : World D C) where
         let sync = opened.settled bytes earlier seen tells in
         (sync.at, sync.past, λ c left. keeps.settled earlier sync c left);
     stays = keeps.stays;
-    held = λ c left. rose (MayPend NonePends office.given) (Rose (d.faults before.disk) (d.faults after.disk)) keeps.pending file (history_behind found office.given) c keeps.which keeps.cause (keeps.left c left);
+    held = λ c left. rose (MayPend NonePends office.given) (Rose (d.faults before.disk) (d.faults after.disk)) keeps.pending file (history_after found office.given) c keeps.which keeps.cause (keeps.left c left);
   }
 
   abbrev Phrases : Office d → Type 0
@@ -136,9 +136,9 @@ module _ {D C : Type 0} (d : Disks D) (before after : World D C) where
     abbrev Lawful : Office d → Type 0
     Lawful office = (file : List ℕ) × (found : History) × HasHistory office.opened file found × IsOneHistory office file found
 
-    carried : (office : Office d) (kept : KeptOffice D d) (file : List ℕ) (h : History) → HasHistory office.opened file h → Carries d kept file (history_behind h office.given) → office.state ≡ state_of kept → Lawful office
+    carried : (office : Office d) (kept : KeptOffice D d) (file : List ℕ) (h : History) → HasHistory office.opened file h → Carries d kept file (history_after h office.given) → office.state ≡ state_of kept → Lawful office
     carried office kept file h opened carries is =
-        let last = history_behind h office.given in
+        let last = history_after h office.given in
         let legal : IsHistory file last office.state = subst (λ (s : State). IsHistory file last s) (sym is) carries.0.history in (
           file,
           h,

@@ -14,7 +14,7 @@ use Rattle.desk_program.specs.Runs.{IsEndOfItsOwn}
 use Rattle.warn_serve.specs.Served.{EndsAs, visits_of}
 use Rattle.warn_serve.specs.declared.serving.ServeEnd.{ServeEnd}
 use Rattle.warn_serve.specs.declared.serving.ServeEnd.TheVariants as serve
-use Rattle.serve_command.specs.Serving.{IsServeRun, Serves, TellsServed, summary}
+use Rattle.serve_command.specs.Serving.{IsServeRun, Serves, WritesServed, summary}
 use Rattle.serve_command.specs.declared.words.Serving.{Serving}
 
 module _ {A : Type 0} where
@@ -96,7 +96,7 @@ module _ (disk_failed port_failed : Type 0) where
     ]
 
     -- what is told of the service
-    told_served : (end : ServeEnd) (line : List ℕ) → (end ≡ serve.PortFault → port_failed) → TellsServed end line old new status → HasCauses disk_failed port_failed old new status
+    told_served : (end : ServeEnd) (line : List ℕ) → (end ≡ serve.PortFault → port_failed) → WritesServed end line old new status → HasCauses disk_failed port_failed old new status
     told_served serve.Done line cause (inl tells) = told_well line tells
     told_served serve.Done line cause (inr telling) = told [] (Some OutOfMemory) lacking telling
     told_served serve.PortFault line cause telling = told [] (Some PortFault) (of_port (cause refl)) telling

@@ -8,7 +8,7 @@ use Rattle.desk_traits.specs.declared.disk.Disk.{Ghosts as Disks}
 use Rattle.desk_traits.specs.declared.disk_real.FileDisk.{FileDisk}
 use Rattle.desk_traits.specs.declared.sure_disk.SureDisk.{SureDisk}
 use Rattle.program_ends.specs.Lines.{most_bytes}
-use Rattle.program_ends.specs.Words.{words_behind}
+use Rattle.program_ends.specs.Words.{words_after}
 use Rattle.program_outside.specs.Starts.{Words}
 use Rattle.program_outside.specs.declared.files.Access.{Access}
 use Rattle.warn_main.specs.Access.{access_of}
@@ -61,4 +61,4 @@ module _ {F G C : Type 0} (opens : F → List ℕ → Access → G → F → Typ
   RunsOver words first last before after status =
       ((status ≡ 12) × (last ≡ first) × (after ≡ before))
       ⊎ IsOkAnd words (λ read. (place : Place) × IsNamed read.items place
-      × RunsAt place (words_behind 2 read.items) first last before after status)
+      × RunsAt place (words_after 2 read.items) first last before after status)

@@ -19,7 +19,7 @@ use Rattle.product_frame.specs.Splitting.{IsOneProduct}
 use Rattle.office_core.specs.Agreement.{products_read, texts_of}
 use Rattle.office_core.specs.Histories.{StandOnce, entries_of}
 use Rattle.office_journal.specs.Changes.{Leaves}
-use Rattle.office_journal.specs.Given.{IsFront, MayPend, entries_given, history_behind}
+use Rattle.office_journal.specs.Given.{IsFront, MayPend, entries_given, history_after}
 use Rattle.office_journal.specs.Grown.{NonePends, StaysSince}
 use Rattle.office_journal.specs.Histories.{History, ImageOf, IsHistory}
 use Rattle.office_journal.specs.Kept.{HasHistory, disk_of}
@@ -34,11 +34,11 @@ use Rattle.warn_main.specs.Worlds.{World}
 -- was found. The one at the end is `history_behind found office.given`.
 pub record IsOneHistory {D : Type 0} {d : Disks D} (office : Office d) (file : List ℕ) (found : History) : Type 0 where
   -- "their accepted requests": those of this run, in order, and no others, behind what was found
-  pub accepted : (history_behind found office.given).entries ≡ found.entries ++ entries_given office.given
+  pub accepted : (history_after found office.given).entries ≡ found.entries ++ entries_given office.given
   -- "stand in one legal history": each is accepted at the state of those before it
-  pub legal : IsHistory file (history_behind found office.given) office.state
+  pub legal : IsHistory file (history_after found office.given) office.state
   -- "each once"
-  pub once : StandOnce (entries_of (history_behind found office.given).entries)
+  pub once : StandOnce (entries_of (history_after found office.given).entries)
   -- "a reader of the transmitted texts alone": each text decodes, and is one product
   pub decoded : All (λ (text : List ℕ). IsOk (decode text)) (texts_of office.state)
   pub parted : All IsOneProduct (texts_of office.state)
@@ -71,7 +71,7 @@ pub record OutlastsCrashes {D C : Type 0} (d : Disks D) (before after : World D 
   pub stays : All (λ then. StaysSince d then after.disk NonePends office.given file found) office.answered
   -- and at the end of the run all of them, with one change more only where the disk failed under it.
   pub held : (c : List ℕ) → (d.crash after.disk).may_leave c
-      → Leaves file (history_behind found office.given)
+      → Leaves file (history_after found office.given)
       (λ change. MayPend NonePends office.given change × Rose (d.faults before.disk) (d.faults after.disk)) c
 
 module _ {D C : Type 0} (d : Disks D) (k : Clocks C) where

@@ -2,20 +2,20 @@
 use Rattle.std.proofs.Common.{ℕ, zero, suc, ◌≡◌, ◌+◌, ◌-◌, ◌^◌, ◌≤◌, inl, inr, min, List, [], ◌∷◌, ◌++◌, length, map, refl, ap, sym, ◌∙◌, subst, arith, append_assoc, append-nil, length-append, Option, None, Some, IfSome, option_map, Result, Err}
 use Rattle.std.proofs.lemmas.List.{map-append}
 use Rattle.desk_links.specs.Links.{DoorState, IsNone, IsUnused, LinkState, PortState, behind, with_door}
-use Rattle.desk_links.specs.Listening.{RoseAsTold}
+use Rattle.desk_links.specs.Listening.{RoseWithFailure}
 use Rattle.hazard_types.specs.declared.or.Or.{Or}
 use Rattle.warn_serve.specs.Gathered.{TakesBack, end_after, short_of}
 use Rattle.warn_serve.specs.Shares.{total_of}
 use Rattle.warn_serve.specs.Served.{EndsAs, TellsBehind}
-use Rattle.warn_serve.specs.Workers.{EndsWith, Visit, lacks_of, links_of}
+use Rattle.warn_serve.specs.Workers.{EndsWith, Visit, out_of_memory_ends, links_of}
 use Rattle.warn_serve.specs.declared.serving.ServeEnd.{ServeEnd}
 use Rattle.warn_serve.specs.declared.serving.ServeEnd.TheVariants.{Done, PortFault, OutOfMemory}
 use Rattle.warn_serve.specs.declared.workers.WorkerEnd.{WorkerEnd}
 use Rattle.warn_serve.specs.declared.workers.WorkerEnd.TheVariants.{Done as Worked, PortFault as Failed}
 
 -- the count of a port that gave no doors: it rose where the port failed, and not where memory ran out
-pub counted_so : {T E : Type 0} (before now : ℕ) (r : Result T (Or E)) (e is : Or E) → r ≡ Err e → e ≡ is → RoseAsTold {T = T} {E = E} before now r → RoseAsTold {T = T} {E = E} before now (Err is)
-counted_so {T = T} {E = E} before now r e is at same h = subst (λ (z : Or E). RoseAsTold {T = T} {E = E} before now (Err z)) same (subst (λ (z : Result T (Or E)). RoseAsTold {T = T} {E = E} before now z) at h)
+pub counted_so : {T E : Type 0} (before now : ℕ) (r : Result T (Or E)) (e is : Or E) → r ≡ Err e → e ≡ is → RoseWithFailure {T = T} {E = E} before now r → RoseWithFailure {T = T} {E = E} before now (Err is)
+counted_so {T = T} {E = E} before now r e is at same h = subst (λ (z : Or E). RoseWithFailure {T = T} {E = E} before now (Err z)) same (subst (λ (z : Result T (Or E)). RoseWithFailure {T = T} {E = E} before now z) at h)
 
 pub total_on : {W : Type 0} (share : W → ℕ) (ws : List W) (w : W) → total_of (map share (ws ++ w ∷ [])) ≡ total_of (map share ws) + share w
 total_on share [] w = omega arith
@@ -70,7 +70,7 @@ steady_unused first mid last door was unused is = omega (arith, was, unused.no_f
 pub takes_unused : (first mid last : PortState) (door : DoorState) → TakesBack first mid [] → IsUnused door → last ≡ with_door mid door → TakesBack first last []
 takes_unused first mid last door was unused is = takes_on first mid last [] [] was (takes_door mid last door [] is unused.none_returned (none_told door.links unused.no_link))
 
-lacks_both : (xs ys : List Visit) → lacks_of (xs ++ ys) ≡ lacks_of xs + lacks_of ys
+lacks_both : (xs ys : List Visit) → out_of_memory_ends (xs ++ ys) ≡ out_of_memory_ends xs + out_of_memory_ends ys
 lacks_both [] ys = omega arith
 lacks_both (x ∷ xs) ys = let h = lacks_both xs ys in omega arith
 

@@ -4,11 +4,11 @@ use Rattle.std.proofs.lemmas.List.{map-append}
 use Rattle.desk_traits.specs.Faults.{Rose}
 use Rattle.desk_links.specs.Links.{DoorState, LinkState}
 use Rattle.warn_http.specs.Calls.{Called}
-use Rattle.warn_serve.specs.Workers.{AreVisits, GivesBack, HasNone, HasServed, HasWorked, IsVisit, ServesOne, Visit, lack_of, lacks_of, links_of}
+use Rattle.warn_serve.specs.Workers.{AreVisits, GivesBack, HasNone, HasServed, HasWorked, IsVisit, ServesOne, Visit, count_if_out_of_memory, out_of_memory_ends, links_of}
 use Rattle.warn_serve.specs.declared.links.LinkEnd.{LinkEnd}
 use Rattle.warn_serve.specs.declared.workers.WorkerEnd.TheVariants.{Done, PortFault}
 
-lacks_append : (visits : List Visit) (v : Visit) → lacks_of (visits ++ v ∷ []) ≡ lacks_of visits + lack_of v.end
+lacks_append : (visits : List Visit) (v : Visit) → out_of_memory_ends (visits ++ v ∷ []) ≡ out_of_memory_ends visits + count_if_out_of_memory v.end
 lacks_append [] v = omega arith
 lacks_append (x ∷ visits) v = let h = lacks_append visits v in omega arith
 
@@ -43,7 +43,7 @@ module _ {P : Type 0} (answers lost : Called → P → P → List ℕ → Type 0
   pub served_none : (door : DoorState) (pass : P) → HasServed answers lost 0 0 door door pass pass
   served_none door pass = record { visits = []; served = refl; gives_back = gives_none door; counted = refl; lacked = refl; steady = refl }
 
-  pub served_on : (count lacks more : ℕ) (first mid last : DoorState) (old pass new : P) (end : LinkEnd) → more ≡ lack_of end → HasServed answers lost count lacks first mid old pass → ServesOne answers lost mid last pass new end → HasServed answers lost (count + 1) (lacks + more) first last old new
+  pub served_on : (count lacks more : ℕ) (first mid last : DoorState) (old pass new : P) (end : LinkEnd) → more ≡ count_if_out_of_memory end → HasServed answers lost count lacks first mid old pass → ServesOne answers lost mid last pass new end → HasServed answers lost (count + 1) (lacks + more) first last old new
   served_on count lacks more first mid last old pass new end is h o =
       let v : Visit = record { link = o.link; end = end } in
       record {

@@ -10,7 +10,7 @@ use Rattle.office_turns.specs.declared.happening.Happening.{Happening}
 use Rattle.warn_serve.specs.Calls.{AnswersCall, LosesCall}
 use Rattle.warn_serve.specs.Shares.{ServesShare, SharesOut}
 use Rattle.warn_serve.specs.Sharing.{IsShared}
-use Rattle.warn_serve.specs.Workers.{AreVisits, Visit, lacks_of, links_of}
+use Rattle.warn_serve.specs.Workers.{AreVisits, Visit, out_of_memory_ends, links_of}
 use Rattle.warn_serve.specs.declared.serving.ServeEnd.{ServeEnd}
 use Rattle.warn_serve.specs.declared.serving.ServeEnd.TheVariants.{Done, PortFault, OutOfMemory}
 use Rattle.warn_serve.specs.declared.workers.WorkerEnd.{WorkerEnd}
@@ -47,9 +47,9 @@ TellsBehind first (Some last) more = (before : List LinkState) × (first ≡ Som
 -- links are missing; or links are missing, or one ended for want of memory. Only where the port or a
 -- door failed has the port's count of faults risen.
 abbrev pub EndsAs : PortState → PortState → ℕ → List Visit → ServeEnd → Type 0
-EndsAs first last connections visits Done = (length visits ≡ connections) × (lacks_of visits ≡ 0) × (last.faults ≤ first.faults)
+EndsAs first last connections visits Done = (length visits ≡ connections) × (out_of_memory_ends visits ≡ 0) × (last.faults ≤ first.faults)
 EndsAs first last connections visits PortFault = (length visits < connections) × Rose first.faults last.faults
-EndsAs first last connections visits OutOfMemory = ((length visits < connections) ⊎ (0 < lacks_of visits)) × (last.faults ≤ first.faults)
+EndsAs first last connections visits OutOfMemory = ((length visits < connections) ⊎ (0 < out_of_memory_ends visits)) × (last.faults ≤ first.faults)
 
 module _ {D : Type 0} (d : Disks D) (gives : ℤ → Type 0) (opened : KeptOffice D d) where
   -- a worker that had seen nothing since the opening made its visits

@@ -1,6 +1,6 @@
 -- How links are shared out among workers.
 use Rattle.std.specs.Prelude.{◌≡◌, ◌⊎◌, ◌<◌, ◌+◌, ◌-◌, ◌/◌, ◌%◌, ℕ, zero, suc, List, [], ◌∷◌, length, ⊤}
-use Rattle.warn_serve.specs.Workers.{Visit, lacks_of}
+use Rattle.warn_serve.specs.Workers.{Visit, out_of_memory_ends}
 use Rattle.warn_serve.specs.declared.serving.ServeEnd.{ServeEnd}
 use Rattle.warn_serve.specs.declared.serving.ServeEnd.TheVariants.{Done, PortFault, OutOfMemory}
 use Rattle.warn_serve.specs.declared.workers.WorkerEnd.{WorkerEnd}
@@ -33,7 +33,7 @@ with_links (suc share ∷ shares) = suc share ∷ with_links shares
 
 -- a worker served its share, so many links of which memory ended; or an accept failed before
 abbrev pub ServesShare : ℕ → List Visit → WorkerEnd → Type 0
-ServesShare share visits (Worked lacks) = (length visits ≡ share) × (lacks ≡ lacks_of visits)
+ServesShare share visits (Worked lacks) = (length visits ≡ share) × (lacks ≡ out_of_memory_ends visits)
 ServesShare share visits Failed = length visits < share
 
 -- not all was done

@@ -15,21 +15,21 @@ pub record Visit : Type 0 where
   pub end : LinkEnd
 
 -- 1 for a link that memory ended
-abbrev pub lack_of : LinkEnd → ℕ
-lack_of Closed = 0
-lack_of Cut = 0
-lack_of Spent = 0
-lack_of LinkFault = 0
-lack_of OutOfMemory = 1
+abbrev pub count_if_out_of_memory : LinkEnd → ℕ
+count_if_out_of_memory Closed = 0
+count_if_out_of_memory Cut = 0
+count_if_out_of_memory Spent = 0
+count_if_out_of_memory LinkFault = 0
+count_if_out_of_memory OutOfMemory = 1
 
 -- the links that were returned, in order
 abbrev pub links_of : List Visit → List LinkState
 links_of visits = map (λ v. v.link) visits
 
 -- how many of them memory ended
-abbrev pub lacks_of : List Visit → ℕ
-lacks_of [] = 0
-lacks_of (v ∷ visits) = lack_of v.end + lacks_of visits
+abbrev pub out_of_memory_ends : List Visit → ℕ
+out_of_memory_ends [] = 0
+out_of_memory_ends (v ∷ visits) = count_if_out_of_memory v.end + out_of_memory_ends visits
 
 -- these links were given, and returned
 pub record GivesBack (old new : DoorState) (visits : List Visit) : Type 0 where
@@ -47,7 +47,7 @@ pub record HasNone {P : Type 0} (first last : DoorState) (old new : P) : Type 0 
 
 -- A worker serves its share of links, or fewer where an accept failed. It tells how many of them memory ended.
 abbrev pub EndsWith : DoorState → DoorState → ℕ → List Visit → WorkerEnd → Type 0
-EndsWith old new share visits (Done lacks) = (length visits ≡ share) × (lacks ≡ lacks_of visits) × (new.faults ≡ old.faults)
+EndsWith old new share visits (Done lacks) = (length visits ≡ share) × (lacks ≡ out_of_memory_ends visits) × (new.faults ≡ old.faults)
 EndsWith old new share visits PortFault = (length visits < share) × Rose old.faults new.faults
 
 module _ {P : Type 0} (answers lost : Called → P → P → List ℕ → Type 0) where
@@ -75,7 +75,7 @@ module _ {P : Type 0} (answers lost : Called → P → P → List ℕ → Type 0
     pub served : AreVisits old visits new
     pub gives_back : GivesBack first last visits
     pub counted : length visits ≡ count
-    pub lacked : lacks_of visits ≡ lacks
+    pub lacked : out_of_memory_ends visits ≡ lacks
     pub steady : last.faults ≡ first.faults
 
   -- a worker served its share of links, or fewer where an accept failed, and all of them went back

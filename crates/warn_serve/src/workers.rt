@@ -2,7 +2,7 @@
 ghost use Rattle.std.specs.Prelude.{◌≡◌, ◌≤◌, ◌<◌, ◌^◌, IfOk, OnErr};
 ghost use Rattle.turn_lock.specs.Passes.{KeepsRights};
 ghost use Rattle.warn_serve.specs.Calls.{AnswersCall, LosesCall};
-ghost use Rattle.warn_serve.specs.Workers.{HasNone, HasWorked, ServesOne, lack_of};
+ghost use Rattle.warn_serve.specs.Workers.{HasNone, HasWorked, ServesOne, count_if_out_of_memory};
 
 use crate::links::LinkEnd;
 use crate::service::Service;
@@ -23,8 +23,8 @@ pub enum WorkerEnd {
 }
 
 /// 1 for a link that ended because memory ran out, else 0.
-fn lack_of(end: LinkEnd) -> u64
-    ensures value { result ≡ lack_of end }
+fn count_if_out_of_memory(end: LinkEnd) -> u64
+    ensures value { result ≡ count_if_out_of_memory end }
     ensures most { result ≤ 1 }
 {
     match end {
@@ -82,7 +82,7 @@ impl<R: Wait, D: Disk, C: Clock, G: Gate> Service<'_, R, D, C, G> {
         let mut lacks = 0;
         for _served in 0..share {
             match self.serve_one(pass, inbox, door) {
-                Ok(end) => lacks += lack_of(end),
+                Ok(end) => lacks += count_if_out_of_memory(end),
                 Err(Failed) => return WorkerEnd::PortFault,
             }
         }

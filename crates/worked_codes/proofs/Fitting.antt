@@ -13,9 +13,9 @@ use Rattle.hazard_types.specs.declared.line.Segment.{Segment}
 use Rattle.office_types.specs.declared.request.EventTexts.{EventTexts}
 use Rattle.office_types.specs.declared.request.Texts.{Texts}
 use Rattle.desk_settings.specs.AreSettings.{HasForms}
-use Rattle.desk_settings.specs.Looking.{name_beside}
+use Rattle.desk_settings.specs.Looking.{name_for_zone}
 use Rattle.desk_settings.specs.declared.settings.Settings.{Settings}
-use Rattle.product_template.specs.Conditions.{CanBeSaid, CanBeSegment, ArePrintable, CanBeText}
+use Rattle.product_template.specs.Conditions.{CanBeWritten, CanBeSegment, ArePrintable, CanBeText}
 use Rattle.worked_codes.specs.Plans.{plan_of, Fits}
 
 one : {X : Type 0} (P : X → Type 0) (x : X) → P x → All P (x ∷ [])
@@ -28,18 +28,18 @@ fitting settings class category letter zones line texts t forms some order fits 
     let x : EventTexts = record { event = line.event; texts = texts } in
     record {
       forms = forms;
-      segments = one CanBeSegment s (record { some = some; order = order; lines = one CanBeSaid line fits.said });
-      names = λ e. one (λ (g : Segment). All (λ z. IsSome (name_beside settings.zones z)) g.zones) s (fits.named e);
+      segments = one CanBeSegment s (record { some = some; order = order; lines = one CanBeWritten line fits.said });
+      names = λ e. one (λ (g : Segment). All (λ z. IsSome (name_for_zone settings.zones z)) g.zones) s (fits.named e);
       texts = one ArePrintable x fits.printable;
       letter = fits.capital;
       minute = fits.minute;
     }
 
-each_some : (names : List (Place × List ℕ)) (zones : List Place) → list_all (λ z. is_some (name_beside names z)) zones ≡ true → AllByRecursion (λ z. IsSome (name_beside names z)) zones
+each_some : (names : List (Place × List ℕ)) (zones : List Place) → list_all (λ z. is_some (name_for_zone names z)) zones ≡ true → AllByRecursion (λ z. IsSome (name_for_zone names z)) zones
 each_some names [] h = tt
 each_some names (z ∷ zones) h =
-    let p = and_parts (is_some (name_beside names z)) (list_all (λ z. is_some (name_beside names z)) zones) h in
+    let p = and_parts (is_some (name_for_zone names z)) (list_all (λ z. is_some (name_for_zone names z)) zones) h in
     (p.0, each_some names zones p.1)
 
-pub all_some : (names : List (Place × List ℕ)) (zones : List Place) → list_all (λ z. is_some (name_beside names z)) zones ≡ true → All (λ z. IsSome (name_beside names z)) zones
-all_some names zones h = All-from_recursion (λ z. IsSome (name_beside names z)) zones (each_some names zones h)
+pub all_some : (names : List (Place × List ℕ)) (zones : List Place) → list_all (λ z. is_some (name_for_zone names z)) zones ≡ true → All (λ z. IsSome (name_for_zone names z)) zones
+all_some names zones h = All-from_recursion (λ z. IsSome (name_for_zone names z)) zones (each_some names zones h)

@@ -6,11 +6,11 @@ ghost use Rattle.std.specs.Map.{keys_of};
 ghost use Rattle.hazard_types.specs.Characters.{is_printable};
 ghost use Rattle.hazard_types.specs.Places.{by_place};
 ghost use Rattle.hazard_types.specs.declared.codes.Action.TheVariants as action;
-ghost use Rattle.desk_settings.specs.Looking.{name_beside};
+ghost use Rattle.desk_settings.specs.Looking.{name_for_zone};
 ghost use Rattle.headline_text.specs.Headlines.{is_minute};
 ghost use Rattle.product_frame.specs.LineRules.{HasLocation};
 ghost use Rattle.product_template.specs.Bodies.{is_training};
-ghost use Rattle.product_template.specs.Conditions.{CanBeSaid, IsLetter};
+ghost use Rattle.product_template.specs.Conditions.{CanBeWritten, IsLetter};
 ghost use Rattle.worked_codes.specs.Plans.{plan_of, Fits};
 
 use desk_settings::Settings;
@@ -45,7 +45,7 @@ fn has_expiry(line: &SegLine) -> bool
 /// Whether a product text can have the line: the hazard is known, a flood has a location, an EXP
 /// line has an end, and the event tracking number has at most four digits.
 fn is_sayable(line: &SegLine) -> bool
-    ensures { IsTrue result → CanBeSaid line.now }
+    ensures { IsTrue result → CanBeWritten line.now }
 {
     let known = facts(line.event.hazard).is_some();
     let placed = has_location(&line.flood);
@@ -56,7 +56,7 @@ fn is_sayable(line: &SegLine) -> bool
 /// Whether the settings have a name for a zone.
 fn has_name(settings: &Settings, zone: &Zone) -> bool
     requires { IsStrictlySortedBy by_place (keys_of settings.now.zones) }
-    ensures { result ≡ is_some (name_beside settings.now.zones zone.now) }
+    ensures { result ≡ is_some (name_for_zone settings.now.zones zone.now) }
 {
     settings.zone_name(zone).is_some()
 }
@@ -64,7 +64,7 @@ fn has_name(settings: &Settings, zone: &Zone) -> bool
 /// Whether the settings have a name for each zone.
 fn have_names(settings: &Settings, zones: &[Zone]) -> bool
     requires { IsStrictlySortedBy by_place (keys_of settings.now.zones) }
-    ensures { result ≡ list_all (λ z. is_some (name_beside settings.now.zones z)) zones.now }
+    ensures { result ≡ list_all (λ z. is_some (name_for_zone settings.now.zones z)) zones.now }
 {
     for zone in zones {
         if !has_name(settings, zone) {
@@ -80,7 +80,7 @@ fn have_names(settings: &Settings, zones: &[Zone]) -> bool
 fn are_named(settings: &Settings, class: Class, zones: &[Zone]) -> bool
     requires { IsStrictlySortedBy by_place (keys_of settings.now.zones) }
     ensures { IsTrue result → is_training class ≡ false →
-        All (λ z. IsSome (name_beside settings.now.zones z)) zones.now }
+        All (λ z. IsSome (name_for_zone settings.now.zones z)) zones.now }
 {
     match class {
         Class::T => true,

@@ -97,7 +97,7 @@ impl Taking {
 /// # Errors
 ///
 /// Out of memory.
-pub fn told_by_reader(
+pub fn read_by_reader(
     alloc: Global,
     asked: &Asked,
     input: &[u8],

@@ -1,5 +1,5 @@
 //! The script of archives.
-use crate::archive::reader::told_by_reader;
+use crate::archive::reader::read_by_reader;
 use crate::archive::runs::{Given, Run, Telling, run_telling, try_cuts};
 use crate::archive::steps::{Step, step_of};
 use archive_report::asked_of;
@@ -92,7 +92,7 @@ impl Script {
     fn reader_step(&self, alloc: Global, size: usize, line: &str) -> Result<String, Oom> {
         let words = words_of(alloc, line)?;
         match asked_of(&words) {
-            Some(asked) => told_by_reader(alloc, &asked, self.input.as_slice(), size),
+            Some(asked) => read_by_reader(alloc, &asked, self.input.as_slice(), size),
             None => Ok(format!(in alloc; "unread: reader {line}\n")?),
         }
     }

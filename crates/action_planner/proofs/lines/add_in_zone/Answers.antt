@@ -2,7 +2,7 @@
 use Rattle.std.proofs.Common.{◌∙◌, ◌++◌, ℕ, List, Result, Ok, Err, OnOk, ap, map, filter, rules}
 use Rattle.hazard_types.specs.declared.codes.Action.TheVariants.{Con}
 use Rattle.hazard_types.specs.declared.line.Row.{Row}
-use Rattle.action_planner.specs.Lines.{line_on, goes_on_beside}
+use Rattle.action_planner.specs.Lines.{line_on, is_continued}
 use Rattle.action_planner.specs.Placed.{Placed}
 use Rattle.action_planner.proofs.LiveLemmas.{beside_live}
 use Rattle.action_planner.proofs.lines.add_in_zone.Goals as goal
@@ -20,7 +20,7 @@ returns-clause-lines c =
     on_ok c.add_going_on.result _ _
     (λ is.
     is
-    ∙ ap (λ (t : ℕ). old ++ map (line_on Con t) (filter (goes_on_beside category t c.spoken.result.now) some)) c.minute-t.ensures
-    ∙ ap (λ (ps : List Placed). old ++ map (line_on Con s.minute) (filter (goes_on_beside category s.minute ps) some)) c.spoken.ensures
+    ∙ ap (λ (t : ℕ). old ++ map (line_on Con t) (filter (is_continued category t c.spoken.result.now) some)) c.minute-t.ensures
+    ∙ ap (λ (ps : List Placed). old ++ map (line_on Con s.minute) (filter (is_continued category s.minute ps) some)) c.spoken.ensures
     ∙ ap (λ (rows : List Row). old ++ map (line_on Con s.minute) rows) (beside_live category s.minute s.intents c.args.zone.now s.rows some (search rules)))
     c.add_going_on.ensures

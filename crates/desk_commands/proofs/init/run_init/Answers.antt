@@ -12,7 +12,7 @@ returns-in-Ok-make g c =
       read = c.as_slice.result.now;
       takes = took.0;
       within = took.1;
-      outcome = inl (took.2, took.3, inl (ensures.made, read_whole c.as_slice.result.now (source.inflow c.read_settings.new.input).left ensures.made.settings.0 ensures.made.settings.1 took.2, c.tell_made.ensures));
+      outcome = inl (took.2, took.3, inl (ensures.made, read_whole c.as_slice.result.now (source.inflow c.read_settings.new.input).left ensures.made.settings.0 ensures.made.settings.1 took.2, c.write_made.ensures));
       later = ensures.later;
       crashes = ensures.crashes;
     })

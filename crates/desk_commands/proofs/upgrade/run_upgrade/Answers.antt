@@ -27,7 +27,7 @@ returns-in-Ok g c =
       later = c.upgrade-upgrade.ensures.later;
       any_moment = c.upgrade-upgrade.ensures.any_moment;
     } in
-    let came = outcome d old new c.upgrade-upgrade.result _ _ _ _ says c.into_disk.ensures c.tell_upgrade-status.ensures in
+    let came = outcome d old new c.upgrade-upgrade.result _ _ _ _ says c.into_disk.ensures c.write_upgrade-status.ensures in
     let given = mark_given d _ old new _ _ _ came in
     inr (record {
       opened = old;
@@ -42,7 +42,7 @@ returns-in-Ok g c =
           let file = found.0 in
           let h = found.1 in
           let start = opened_carries d m.seen_is_left m.are_crashes file h NonePends c.args.disk old c.a_crash_leaves_the_history.ensures opened found.3 in
-          let up = upgraded d old new (d.faults c.args.disk) m.are_crashes c.upgrade-upgrade.result file h _ _ _ _ says c.into_disk.ensures c.tell_upgrade-status.ensures start in (
+          let up = upgraded d old new (d.faults c.args.disk) m.are_crashes c.upgrade-upgrade.result file h _ _ _ _ says c.into_disk.ensures c.write_upgrade-status.ensures start in (
             file,
             h,
             subst (λ next. KeepsHistory d c.args.disk (disk_of old) next bytes file h given [] (state_of new)) (sym c.into_disk.ensures)

@@ -3,10 +3,10 @@ use Rattle.hazard_board.proofs.StandingLemmas.{end_put, end_left, put_in_order, 
 use Rattle.hazard_board.proofs.standing.set_end.Goals as goal
 
 pub returns-in-Some-clause-order : goal.returns-in-Some-clause-order
-returns-in-Some-clause-order c = rw (c.put_standing.ensures.items) (put_in_order _ c.args.standing.now.items c.requires.order)
+returns-in-Some-clause-order c = rw (c.insert_standing.ensures.items) (put_in_order _ c.args.standing.now.items c.requires.order)
 
 pub returns-in-Some-clause-ends : goal.returns-in-Some-clause-ends
-returns-in-Some-clause-ends c d = rw (c.put_standing.ensures.items, c.in-Some.is) (end_put _ c.args.standing.now.items d)
+returns-in-Some-clause-ends c d = rw (c.insert_standing.ensures.items, c.in-Some.is) (end_put _ c.args.standing.now.items d)
 
 pub returns-in-None-clause-order : goal.returns-in-None-clause-order
 returns-in-None-clause-order c = rw (c.take_out.ensures.items) (left_in_order c.args.e.now c.args.standing.now.items c.requires.order)

@@ -18,7 +18,7 @@ returns g c disk opened =
       closed = closed;
       end = c.serve-kept.result.1;
       served = served;
-      told = c.tell_served-status.ensures;
+      told = c.write_served-status.ensures;
       handed = c.into_disk.ensures;
       history = c.an_opened_office_keeps_its_history.ensures disk c.args.kept served.happenings opened served.since;
       later = subst (λ next. d.faults disk ≤ d.faults next) (sym c.into_disk.ensures) (let a = opened.later in let b = served.since.later in omega arith);

@@ -7,8 +7,8 @@ pub returns-in-Err : goal.returns-in-Err
 returns-in-Err g c =
     let asked = c.in-Some.asked in
     let before = streams (g.S.Source.inflow c.args.input.now) (g.K.Sink.outflow c.args.output.now) in
-    let after = streams (g.S.Source.inflow c.tell_stats.new.input) (g.K.Sink.outflow c.end_run.new.output) in
-    let mid = g.K.Sink.outflow c.tell_stats.new.output in
+    let after = streams (g.S.Source.inflow c.write_stats.new.input) (g.K.Sink.outflow c.end_run.new.output) in
+    let mid = g.K.Sink.outflow c.write_stats.new.output in
     let run = run_ended asked c.args.limit before after mid c.end_run.result c.in-Err.stop c.from.result
     c.in-Err.ensures.run c.in-Err.ensures.read c.in-Err.ensures.write c.from.ensures c.end_run.ensures in
     record {

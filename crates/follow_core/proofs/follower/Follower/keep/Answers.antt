@@ -6,7 +6,7 @@ use Rattle.event_life.specs.Products.{rows_of}
 use Rattle.product_frame.specs.declared.frame.Frame.{Frame}
 use Rattle.product_decoder.specs.ReaderModel.{Reading}
 use Rattle.row_index.specs.Verdicts.{expand, AreFound}
-use Rattle.follow_core.specs.Frames.{products_heard}
+use Rattle.follow_core.specs.Frames.{products_taken}
 use Rattle.follow_core.proofs.Kept.{counted_kept, found_by, rows_kept}
 use Rattle.follow_core.proofs.follower.Follower.keep.Goals as goal
 
@@ -15,7 +15,7 @@ pub leave_runs-requires-clause-found : goal.leave_runs-requires-clause-found
 leave_runs-requires-clause-found c =
     let heard : List (Snapshot Frame) = c.self.inside.heard.items in
     let held_is : ◌≡◌ {A = Option (List Row)} c.self.inside.rows (Some c.in-Some.rows) = sym c.take.ensures.value ∙ c.in-Some.is in
-    found_by c.self.inside.rows c.in-Some.rows (products_heard c.self.inside.office c.self.inside.class heard) c.args.judged.now held_is c.self.invariant.1
+    found_by c.self.inside.rows c.in-Some.rows (products_taken c.self.inside.office c.self.inside.class heard) c.args.judged.now held_is c.self.invariant.1
     (subst (λ (was : Reading). AreFound (rows_of was.products) c.args.judged.now) (sym c.self.view_is) c.requires.found)
 
 pub invariant_of-self-2 : goal.invariant_of-self-2

@@ -6,7 +6,7 @@ use Rattle.request_json.specs.Replies.{reply_text}
 use Rattle.office_core.specs.Prepared.{IsReady, Readied}
 use Rattle.office_core.specs.Step.{Refuses, Repeats}
 use Rattle.office_journal.specs.Changes.{Change, Leaves}
-use Rattle.office_journal.specs.Outcomes.{Becomes, Names, StandsBeside}
+use Rattle.office_journal.specs.Outcomes.{Becomes, Names, ComesWith}
 use Rattle.office_journal.specs.Submitting.{IsAsked, IsOffered, entered}
 use Rattle.office_journal.specs.declared.answers.Answer.{Answer}
 use Rattle.office_journal.proofs.Appending.{at_rest}
@@ -37,7 +37,7 @@ returns-in-New-clause-told g c =
     let offered = IsOffered s c.args.desk c.args.seq c.args.r.now c.args.reading in
     let broken = Refuses s c.args.desk c.args.seq c.args.r.now c.args.reading in
     let told = option_map (λ t. t.value) c.with_prepared.result.1 in
-    let beside = subst (λ (p : Readied). StandsBeside c.append_prepared.result p told) c.of-told.ensures c.with_prepared.ensures.told in
+    let beside = subst (λ (p : Readied). ComesWith c.append_prepared.result p told) c.of-told.ensures c.with_prepared.ensures.told in
     subst (λ (a : Answer). Names d.seen d.crash d.faults c.args.self.now c.append_prepared.new.self offered kept broken a told) (sym c.with_prepared.ensures.answer)
     (names_on d.seen d.crash c.args.self.now _ refl c.prepare.ensures.state refl refl c.append_prepared.new.self d.faults c.in-New.p offered kept broken
     (ready_offered c.prepare.new.self s c.args.desk c.args.seq c.args.r.now c.args.reading c.in-New.p c.prepare.ensures.state ready) c.append_prepared.result told c.append_prepared.ensures.becomes beside)

@@ -13,7 +13,7 @@ returns-then-is_heading_from-clause-taken c =
     let lines = slice_range h.bytes.items h.from h.seen in
     let line = drop h.seen h.bytes.items in
     let is : has_heading line ≡ true = ap (λ (bytes : List _). has_heading (drop c.args.self.now.seen bytes)) (sym c.deref.ensures.value) ∙ sym c.is_heading_from.ensures ∙ c.if-is_heading_from.true in
-    given_front c.give_front.result (rest_of h) lines line _ (front_less (rest_of h) lines line (drop_split h.bytes.items h.from h.seen c.requires.holds.from_seen) (c.requires.holds.one c.requires.headed)) (ap products_in (drop_split h.bytes.items h.from h.seen c.requires.holds.from_seen) ∙ front_given lines line (c.requires.holds.one c.requires.headed) c.requires.quiet is) c.give_front.ensures.text c.give_front.ensures.rest
+    given_front c.take_until_last_line.result (rest_of h) lines line _ (front_less (rest_of h) lines line (drop_split h.bytes.items h.from h.seen c.requires.holds.from_seen) (c.requires.holds.one c.requires.headed)) (ap products_in (drop_split h.bytes.items h.from h.seen c.requires.holds.from_seen) ∙ front_given lines line (c.requires.holds.one c.requires.headed) c.requires.quiet is) c.take_until_last_line.ensures.text c.take_until_last_line.ensures.rest
 
 pub returns-clause-taken : goal.returns-clause-taken
 returns-clause-taken c =

@@ -7,8 +7,8 @@ use Rattle.row_index.specs.Steps.{put_each}
 use Rattle.row_index.specs.Zoning.{AreOf}
 use Rattle.row_index.proofs.held.EventRows.put.Goals as goal
 
-pub put_standing-requires-clause-own : goal.put_standing-requires-clause-own
-put_standing-requires-clause-own c = subst (λ (rows : List Row). AreOf c.args.event.now rows) (sym c.self.view_is) c.requires
+pub insert_standing-requires-clause-own : goal.insert_standing-requires-clause-own
+insert_standing-requires-clause-own c = subst (λ (rows : List Row). AreOf c.args.event.now rows) (sym c.self.view_is) c.requires
 
 pub invariant_of-self : goal.invariant_of-self
 invariant_of-self c = c.in-Ok.ensures.are

@@ -27,11 +27,11 @@ loop-served-preserved g c =
     let one = c.in-Ok.ensures.served in
     record {
       within = omega (arith, c.loop-served-test.true);
-      lacked = omega (arith, was.lacked, c.lack_of-lacks.ensures.most);
+      lacked = omega (arith, was.lacked, c.count_if_out_of_memory-lacks.ensures.most);
       kept = keeps_on c.args.pass.now c.loop-served.pass c.serve_one.new.pass was.kept c.in-Ok.ensures.kept;
       none_out = omega (arith, was.none_out, one.gives_back.given, one.gives_back.returned);
       returned = omega (arith, was.returned, one.gives_back.returned);
-      served = served_on (AnswersCall (g.C.Clock.gives c.args.self.now.clock.now)) (LosesCall (g.C.Clock.gives c.args.self.now.clock.now)) c.loop-served._served c.loop-served.lacks c.lack_of-lacks.result (state c.args.door.now) (state c.loop-served.door) (state c.serve_one.new.door) c.args.pass.now c.loop-served.pass c.serve_one.new.pass c.in-Ok.end c.lack_of-lacks.ensures.value was.served one;
+      served = served_on (AnswersCall (g.C.Clock.gives c.args.self.now.clock.now)) (LosesCall (g.C.Clock.gives c.args.self.now.clock.now)) c.loop-served._served c.loop-served.lacks c.count_if_out_of_memory-lacks.result (state c.args.door.now) (state c.loop-served.door) (state c.serve_one.new.door) c.args.pass.now c.loop-served.pass c.serve_one.new.pass c.in-Ok.end c.count_if_out_of_memory-lacks.ensures.value was.served one;
     }
 
 pub returns-in-Err-clause-kept : goal.returns-in-Err-clause-kept
