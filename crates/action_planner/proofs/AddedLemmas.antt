@@ -1,10 +1,7 @@
 -- The rows that go on beside a draft, zone by zone of those that it touches.
-use Rattle.std.proofs.Common.{◌≡◌, ◌≢◌, ◌∙◌, ◌&&◌, ◌||◌, not, ◌<◌, ℕ, Bool, true, false, List, [], ◌∷◌, ◌++◌, Ordering, Less, Equal, Greater, filter, map, length, refl, sym, ap, subst, arith, if◌then◌else◌}
+use Rattle.std.proofs.Common.{◌≡◌, ◌∙◌, ◌&&◌, ◌||◌, not, ◌<◌, ℕ, Bool, true, false, List, [], ◌∷◌, ◌++◌, Less, filter, map, length, refl, sym, ap, subst, arith, if◌then◌else◌}
 use Rattle.std.specs.List.{AllByRecursion, list_any}
 use Rattle.std.specs.List.Sorted.{IsStrictlySortedBy}
-use Rattle.std.specs.Ordering.{ordering_then}
-use Rattle.std.proofs.lemmas.Bool.{false_from_ne_true}
-use Rattle.std.proofs.lemmas.Cmp.{tied_itself}
 use Rattle.hazard_types.specs.Hazards.{facts_of}
 use Rattle.hazard_types.specs.Names.{is_fl_phenomenon}
 use Rattle.hazard_types.specs.Orders.{by_event}
@@ -15,10 +12,12 @@ use Rattle.hazard_types.specs.declared.codes.Category.{Category}
 use Rattle.hazard_types.specs.declared.line.Line.{Line}
 use Rattle.hazard_types.specs.declared.line.Row.{Row}
 use Rattle.hazard_types.proofs.Equality.{zone_one, zone_itself}
-use Rattle.hazard_types.proofs.OrderLaws.{by_place_total, by_place_ties}
 use Rattle.event_life.specs.Periods.{is_live}
 use Rattle.event_life.specs.Products.{by_key}
 use Rattle.hazard_board.specs.Board.{slice_of}
+use Rattle.hazard_board.proofs.Places.{first_less}
+use Rattle.hazard_board.proofs.ZoneClashes.{apart_less}
+use Rattle.hazard_board.proofs.ZoneLemmas.{further}
 use Rattle.action_planner.specs.Placed.{Placed, touches, speaks}
 use Rattle.action_planner.specs.Lines.{line_on, follows, is_continued, added_in, added_lines}
 
@@ -43,20 +42,6 @@ filtered_alike {X} p q same (x ∷ xs) = ap (λ (b : Bool). if b then x ∷ filt
 
 -- rows of later zones
 
-first_less : (p q : Ordering) → ordering_then p q ≡ Less → p ≢ Greater
-first_less Less q h g = cc
-first_less Equal q h g = cc
-first_less Greater q h g = cc
-
-further : (o : Ordering) (p q r : Place) → by_place p q ≡ Less → by_place q r ≡ o → o ≢ Greater → by_place p r ≡ Less
-further Less p q r less is fall = by_place_total.trans p q r less is
-further Equal p q r less is fall = subst (λ (x : Place). by_place p x ≡ Less) (by_place_ties q r is) less
-further Greater p q r less is fall = absurd (fall refl)
-
-not_itself : (z y : Place) → by_place z y ≡ Less → same_zone y z ≡ false
-not_itself z y less = false_from_ne_true _ (λ g.
-    let tied : by_place z y ≡ Equal = ap (λ (x : Place). by_place z x) (zone_one y z g) ∙ tied_itself by_place_total z in cc)
-
 module _ (p : Row → Bool) (z : Place) (q : Row → Bool) (later : (r : Row) → q r ≡ true → by_place z r.zone ≡ Less) where
   own : Row → Bool
   own r = same_zone r.zone z && p r
@@ -71,13 +56,13 @@ module _ (p : Row → Bool) (z : Place) (q : Row → Bool) (later : (r : Row) �
   unfolding own
   none_own r [] less above = refl
   none_own r (s ∷ rows) less above =
-      let after = further (by_place r.zone s.zone) z r.zone s.zone less refl (first_less (by_place r.zone s.zone) (by_event r.event s.event) above.0) in
-      rw (not_itself z s.zone after) (none_own r rows less above.1)
+      let after = further z r.zone s.zone (by_place r.zone s.zone) refl less (first_less (by_place r.zone s.zone) (by_event r.event s.event) above.0) in
+      rw (apart_less z s.zone after) (none_own r rows less above.1)
 
   split_step : (here there keep : Bool) (r : Row) (rows : List Row) → same_zone r.zone z ≡ here → q r ≡ there → p r ≡ keep → AllByRecursion (λ y. by_key r y ≡ Less) rows →
       filter either rows ≡ filter own rows ++ filter rest rows → filter either (r ∷ rows) ≡ filter own (r ∷ rows) ++ filter rest (r ∷ rows)
   unfolding own rest either
-  split_step true true keep r rows h t k above more = let never = sym h ∙ not_itself z r.zone (later r t) in cc
+  split_step true true keep r rows h t k above more = let never = sym h ∙ apart_less z r.zone (later r t) in cc
   split_step true false true r rows h t k above more = rw (h, t, k) (ap (λ (some : List Row). r ∷ some) more)
   split_step true false false r rows h t k above more = rw (h, t, k) more
   split_step false true true r rows h t k above more =

@@ -1,5 +1,5 @@
 -- The tests of the definitions against the words of the cases.
-use Rattle.std.proofs.Common.{◌≡◌, ◌+◌, ◌&&◌, inl, inr, not, ℕ, zero, suc, ◌<◌, ◌≤◌, List, [], ◌∷◌, Bool, true, false, Option, Some, None, refl, ap, subst, ◌∙◌, cond, length, arith, nat_le, codes}
+use Rattle.std.proofs.Common.{◌≡◌, ◌+◌, ◌&&◌, inl, inr, not, ℕ, zero, suc, ◌<◌, ◌≤◌, List, [], ◌∷◌, Bool, true, false, Option, Some, None, refl, sym, ap, subst, ◌∙◌, cond, length, arith, nat_le, codes}
 use Rattle.std.proofs.lemmas.Bool.{eqb-true, eq-eqb, false_from_ne_true, le-leb, leb-true, not-true, not_from_false}
 use Rattle.std.proofs.lemmas.Bool.Decides.{Decides-and, Decides-eqb, Decides-like, Decides-ltb, Decides-or, not_from_Decides}
 use Rattle.std.proofs.lemmas.List.Elements.{All-from_recursion, recursion_from_All}
@@ -129,15 +129,16 @@ speaks_Decides e z p = Decides-and _ _ (event_decides p.event e) (touches_Decide
 
 -- hazards
 
-follows_by : (c : Category) (o : Option Facts) → Decides (follows c o) ((f : Facts) × (o ≡ Some f) × (f.follows ≡ c))
-follows_by c None = (λ h. cc, λ w. let e = w.1 in cc)
-follows_by c (Some facts) = (
-  λ h. (facts, refl, (category_decides facts.follows c).0 h),
-  λ w. (category_decides facts.follows c).1 (let same : facts ≡ w.0 = (let e = w.1 in cc) in ap (λ (f : Facts). f.follows) same ∙ w.2),
+-- a test of a category that facts name holds where there are facts that name it
+pub category_told : (test : Option Facts → Bool) (named : Facts → Category) (c : Category) → test None ≡ false → ((facts : Facts) → Decides (test (Some facts)) (named facts ≡ c)) → (o : Option Facts) → Decides (test o) ((f : Facts) × (o ≡ Some f) × (named f ≡ c))
+category_told test named c none each None = (λ h. let never = sym none ∙ h in cc, λ w. let e = w.1 in cc)
+category_told test named c none each (Some facts) = (
+  λ h. (facts, refl, (each facts).0 h),
+  λ w. (each facts).1 (let same : facts ≡ w.0 = (let e = w.1 in cc) in ap named same ∙ w.2),
 )
 
 pub follows_Decides : (c : Category) (h : Hazard) → Decides (follows c (facts_of h)) (IsFollowedBy c h)
-follows_Decides c h = follows_by c (facts_of h)
+follows_Decides c h = category_told (follows c) (λ (f : Facts). f.follows) c refl (λ facts. category_decides facts.follows c) (facts_of h)
 
 pub flood_Decides : (h : Hazard) → Decides (is_fl_phenomenon h) (h.phen ≡ codes "FL")
 flood_Decides h = bytes_eq-Decides h.phen (codes "FL")

@@ -20,7 +20,7 @@ use Rattle.hazard_types.proofs.Equality.{category_decides, kind_decides}
 use Rattle.action_planner.specs.Conditions.{AreOfKind, AreZones, Fits, FitsTarget, IsFollowedBy, IsOpenedBy, MayHold}
 use Rattle.action_planner.specs.Fitting.{are_of_kind, are_zones, fits, fits_following, fits_target, may_hold, of_other_kind, opens_with, stand_once}
 use Rattle.action_planner.specs.Placed.{zones_of}
-use Rattle.action_planner.proofs.CasesWords.{follows_Decides, le_Decides}
+use Rattle.action_planner.proofs.CasesWords.{category_told, follows_Decides, le_Decides}
 use Rattle.action_planner.proofs.LawfulLists.{all_weaker, find_none, no_find, none_from, none_of}
 
 -- ---- kinds of zones
@@ -67,15 +67,8 @@ none_found h zones found is = (
 
 -- ---- categories
 
-opens_by : (c : Category) (o : Option Facts) → Decides (opens_with c o) ((f : Facts) × (o ≡ Some f) × (f.opens ≡ c))
-opens_by c None = (λ h. cc, λ w. let e = w.1 in cc)
-opens_by c (Some facts) = (
-  λ h. (facts, refl, (category_decides facts.opens c).0 h),
-  λ w. (category_decides facts.opens c).1 (let same : facts ≡ w.0 = (let e = w.1 in cc) in ap (λ (f : Facts). f.opens) same ∙ w.2),
-)
-
 pub opens_Decides : (c : Category) (h : Hazard) → Decides (opens_with c (facts_of h)) (IsOpenedBy c h)
-opens_Decides c h = opens_by c (facts_of h)
+opens_Decides c h = category_told (opens_with c) (λ (f : Facts). f.opens) c refl (λ facts. category_decides facts.opens c) (facts_of h)
 
 target_Decides : (c : Category) (target : Target) (zones : List Place) → Decides (fits_target c target zones) (FitsTarget c target zones)
 target_Decides c (Fresh h) zones = Decides-and _ _ (opens_Decides c h) (kind_Decides (facts_of h) zones)

@@ -7,7 +7,7 @@ use Rattle.std.specs.List.Sorted.{IsStrictlySortedBy}
 use Rattle.hazard_types.specs.Places.{Place}
 use Rattle.hazard_types.specs.Same.{same_zone, same_event}
 use Rattle.hazard_types.specs.declared.codes.Action.{Action}
-use Rattle.hazard_types.specs.declared.codes.Action.TheVariants.{New, Con, Exa, Ext, Exb}
+use Rattle.hazard_types.specs.declared.codes.Action.TheVariants.{New, Con, Exa, Ext, Exb, Upg, Can, Exp}
 use Rattle.hazard_types.specs.declared.codes.Category.{Category}
 use Rattle.hazard_types.specs.declared.hazard.Event.{Event}
 use Rattle.hazard_types.specs.declared.line.Line.{Line}
@@ -18,13 +18,13 @@ use Rattle.office_types.specs.declared.request.PutPart.{PutPart}
 use Rattle.office_types.specs.declared.request.Target.{Target}
 use Rattle.office_types.specs.declared.request.Target.TheVariants.{Fresh, Join}
 use Rattle.hazard_types.proofs.Equality.{event_itself, event_one, zone_itself, zone_one}
-use Rattle.event_life.specs.Periods.{is_live, same_at}
+use Rattle.event_life.specs.Periods.{ends_after, is_live, same_at}
 use Rattle.event_life.specs.Products.{by_key, is_routine, is_upgrade, row_at, concerns}
 use Rattle.event_life.proofs.Keys.{key_ties}
 use Rattle.event_life.proofs.Puts.{at_key, at_key-parts, concerns-parts}
 use Rattle.hazard_board.specs.Board.{has_period}
 use Rattle.action_planner.specs.Placed.{Placed, zones_of, touches, speaks}
-use Rattle.action_planner.specs.Lines.{put_period, put_period_on, opening_action, joined_row, put_line_on, put_line, line_on, finish_lines, restate_lines, lines_in, lines_in_zones, lines_from, goes_on, is_continued, added_lines, planned_lines}
+use Rattle.action_planner.specs.Lines.{is_near_end, is_overlaid, put_period, put_period_on, opening_action, joined_row, put_line_on, put_line, line_on, finish_lines, restate_lines, lines_in, lines_in_zones, lines_from, goes_on, is_continued, added_lines, planned_lines}
 use Rattle.action_planner.specs.Offences.{is_shared}
 use Rattle.action_planner.proofs.LawfulLists.{EachPair, Has, all_append, all_both, all_each, all_weaker, all_filter, all_has, all_map, any_has, has_all, pair_append, pair_filter, pair_map, pair_weaker, pairs_from}
 use Rattle.action_planner.proofs.LawfulPlaced.{IsFit}
@@ -61,6 +61,17 @@ IsOn e z line = (line.event ≡ e) × (line.zone ≡ z)
 pub either_action : (f : Action → Bool) (b : Bool) (x y : Action) → f x ≡ false → f y ≡ false → f (cond b x y) ≡ false
 either_action f true x y p q = p
 either_action f false x y p q = q
+
+-- what a test tells of the lines that have it holds of those that end or restate a row, where no such line has it
+pub finish_never : (test : Action → Bool) (P : Line → Type 0) → test Upg ≡ false → test Can ≡ false → test Exp ≡ false → (rows : List Row) (t : ℕ) (all : List Placed) (o : Option Row) → AllByRecursion (λ (line : Line). test line.action ≡ true → P line) (finish_lines rows t all o)
+finish_never test P upg can exp rows t all None = tt
+finish_never test P upg can exp rows t all (Some row) =
+    let never = either_action test (ends_after row.period.end t && is_overlaid rows t all row) Upg (cond (is_near_end row.period.end t) Exp Can) upg (either_action test (is_near_end row.period.end t) Exp Can exp can) in
+    (λ h. absurd (both_ways _ never h), tt)
+
+pub restate_never : (test : Action → Bool) (P : Line → Type 0) → test Con ≡ false → (t : ℕ) (o : Option Row) → AllByRecursion (λ (line : Line). test line.action ≡ true → P line) (restate_lines t o)
+restate_never test P con t None = tt
+restate_never test P con t (Some row) = (λ h. absurd (both_ways _ con h), tt)
 
 opening_action-none : (f : Action → Bool) → f New ≡ false → f Exa ≡ false → f Exb ≡ false → (rows : List Row) (t : ℕ) (e : Event) (part : PutPart) (target : Target) → f (opening_action rows t e part target) ≡ false
 opening_action-none f n a b rows t e part (Fresh h) = n

@@ -22,11 +22,11 @@ use Rattle.action_planner.proofs.LawfulPlaced.{IsFit}
 use Rattle.action_planner.proofs.LawfulSteps.{IsSound, row_at-own, put_sound, con_sound, finish_sound, routine_sound}
 use Rattle.action_planner.proofs.LawfulKeys.{each_zone, each_intent, rows_own}
 
-found_has_step : (f : Row → Bool) (b : Bool) (x y : Row) (xs : List Row) → cond b (Some x) (find f xs) ≡ Some y → (find f xs ≡ Some y → Has xs y) → Has (x ∷ xs) y
+found_has_step : {X : Type 0} (f : X → Bool) (b : Bool) (x y : X) (xs : List X) → cond b (Some x) (find f xs) ≡ Some y → (find f xs ≡ Some y → Has xs y) → Has (x ∷ xs) y
 found_has_step f true x y xs h more = let same : x ≡ y = cc in inl same
 found_has_step f false x y xs h more = inr (more h)
 
-pub found_has : (f : Row → Bool) (xs : List Row) (y : Row) → find f xs ≡ Some y → Has xs y
+pub found_has : {X : Type 0} (f : X → Bool) (xs : List X) (y : X) → find f xs ≡ Some y → Has xs y
 found_has f [] y h = cc
 found_has f (x ∷ xs) y h = found_has_step f (f x) x y xs h (found_has f xs y)
 

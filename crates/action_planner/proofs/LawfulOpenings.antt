@@ -1,5 +1,5 @@
 -- What a lawful line opens, and the numbers of the events that a draft opens.
-use Rattle.std.proofs.Common.{◌≡◌, inl, inr, ◌&&◌, ℕ, suc, ◌+◌, ◌≤◌, List, [], ◌∷◌, ◌++◌, Bool, true, false, Option, Some, None, refl, sym, ap, subst, ◌∙◌, cond, map, filter, length, arith, option_map}
+use Rattle.std.proofs.Common.{◌≡◌, inl, inr, ℕ, suc, ◌+◌, ◌≤◌, List, [], ◌∷◌, ◌++◌, Bool, true, false, Option, Some, None, refl, sym, ap, subst, ◌∙◌, cond, map, filter, length, arith, option_map}
 use Rattle.std.proofs.lemmas.Bool.{and_from, and_left, eq-eqb, both_ways}
 use Rattle.std.proofs.lemmas.List.Sums.{sum_by-cons, sum_by-append}
 use Rattle.std.proofs.lemmas.List.Elements.{All-from_recursion, recursion_from_All}
@@ -9,7 +9,7 @@ use Rattle.hazard_types.specs.Days.{year_of}
 use Rattle.hazard_types.specs.Places.{Place}
 use Rattle.hazard_types.specs.Same.{same_hazard}
 use Rattle.hazard_types.specs.declared.codes.Action.{Action}
-use Rattle.hazard_types.specs.declared.codes.Action.TheVariants.{New, Con, Exa, Ext, Exb, Upg, Can, Exp, Rou}
+use Rattle.hazard_types.specs.declared.codes.Action.TheVariants.{New, Con, Exa, Ext, Exb, Rou}
 use Rattle.hazard_types.specs.declared.hazard.Event.{Event}
 use Rattle.hazard_types.specs.declared.hazard.Hazard.{Hazard}
 use Rattle.hazard_types.specs.declared.line.Line.{Line}
@@ -18,12 +18,12 @@ use Rattle.event_life.specs.declared.life.Around.{Around}
 use Rattle.event_life.specs.declared.life.Life.{Life}
 use Rattle.hazard_types.specs.declared.codes.Category.{Category}
 use Rattle.office_types.specs.declared.request.PutPart.{PutPart}
-use Rattle.event_life.specs.Periods.{ends_after, same_at}
+use Rattle.event_life.specs.Periods.{same_at}
 use Rattle.hazard_board.specs.Board.{has_period}
-use Rattle.action_planner.specs.Lines.{added_lines, finish_lines, is_continued, is_near_end, is_overlaid, joined_row, line_on, lines_from, lines_in, lines_in_zones, opening_action, planned_lines, put_line, put_line_on, put_period, put_period_on, restate_lines, unless_ended}
+use Rattle.action_planner.specs.Lines.{added_lines, is_continued, joined_row, line_on, lines_from, lines_in, lines_in_zones, opening_action, planned_lines, put_line, put_line_on, put_period, put_period_on, unless_ended}
 use Rattle.action_planner.specs.Conditions.{CanPlan, MayHold}
 use Rattle.action_planner.proofs.LawfulLists.{Has, all_append, all_each, all_map, all_weaker, any_from, contains_from, has_all, has_filter, has_left, has_map, has_right, kept, map_has}
-use Rattle.action_planner.proofs.LawfulKeys.{IsOn, each_intent, each_zone, either_action, lines_on}
+use Rattle.action_planner.proofs.LawfulKeys.{IsOn, each_intent, each_zone, either_action, finish_never, lines_on, restate_never}
 use Rattle.event_life.specs.Lives.{opens}
 use Rattle.event_life.specs.Products.{is_new, is_routine, life_of, row_at}
 use Rattle.event_life.specs.Openings.{counted_from, is_numbered, numbers_of}
@@ -193,16 +193,6 @@ module _ (rows : List Row) (t : ℕ) (all : List Placed) where
   abbrev IsOpened : Line → Type 0
   IsOpened line = is_new line.action ≡ true → Has (opened all) line.event
 
-  finish_old : (o : Option Row) → AllByRecursion IsOpened (finish_lines rows t all o)
-  finish_old None = tt
-  finish_old (Some row) =
-      let old = either_action is_new (ends_after row.period.end t && is_overlaid rows t all row) Upg (cond (is_near_end row.period.end t) Exp Can) refl (either_action is_new (is_near_end row.period.end t) Exp Can refl refl) in
-      (λ h. absurd (both_ways _ old h), tt)
-
-  restate_old : (o : Option Row) → AllByRecursion IsOpened (restate_lines t o)
-  restate_old None = tt
-  restate_old (Some row) = (λ h. cc, tt)
-
   opened_in : (e : Event) (i : Intent) (z : Place) → (is_opening i ≡ true → Has (opened all) e) → AllByRecursion IsOpened (lines_in rows t all e i z)
   opened_in e (Put part) z own = (
     λ h.
@@ -211,8 +201,8 @@ module _ (rows : List Row) (t : ℕ) (all : List Placed) where
         subst (λ (x : Event). Has (opened all) x) (sym on.0) there,
     tt,
   )
-  opened_in e (Finish part) z own = finish_old (row_at rows e z)
-  opened_in e (Restate part) z own = restate_old (row_at rows e z)
+  opened_in e (Finish part) z own = finish_never is_new (λ (line : Line). Has (opened all) line.event) refl refl refl rows t all (row_at rows e z)
+  opened_in e (Restate part) z own = restate_never is_new (λ (line : Line). Has (opened all) line.event) refl t (row_at rows e z)
   opened_in e (Routine part) z own = ((λ h. cc), tt)
 
   is_among : (p : Placed) → Has all p → is_opening p.intent ≡ true → Has (opened all) p.event

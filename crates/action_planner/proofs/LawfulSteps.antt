@@ -249,32 +249,25 @@ same_end-itself Ufn = refl
 same_at-itself : (t : ℕ) (p : Period) → same_at t p p ≡ true
 same_at-itself t p = and_from _ _ (same_end-itself p.end) (rw (eq-eqb p.begin p.begin refl) refl)
 
-pub con_sound : (rows : List Row) (t : ℕ) (row : Row) → row_at rows row.event row.zone ≡ Some row → is_live t row ≡ true → ends_after row.period.end row.period.begin ≡ true → IsSound rows t (line_on Con t row)
-unfolding breach_of_line
-con_sound rows t row h live long b u =
+-- a line that says of a live row what it is keeps the period
+kept_sound : (action : Action) (t : ℕ) (row : Row) → is_live t row ≡ true → ends_after row.period.end row.period.begin ≡ true →
+    first_of (on_continuing (life_of row) (line_on action t row) t (not (stays (life_of row) (line_on action t row) t), PeriodMoved)) ≡ None
+kept_sound action t row live long =
     let v = live_parts t row live in
     let m = row.period.begin in
     let first : (row.ended || not (ends_after row.period.end t)) ≡ false = or_from row.ended _ v.0 (not_from_true _ v.1) in
-    let left : ends_after row.period.end (continued_period (life_of row) (line_on Con t row) t).begin ≡ true = ap (λ (q : Period). ends_after row.period.end q.begin) (continued_as_is t row) ∙ long in
-    let still : stays (life_of row) (line_on Con t row) t ≡ true = ap (same_at t row.period) (continued_as_is t row) ∙ same_at-itself t row.period in
-    rw h (none_first (on_continuing (life_of row) (line_on Con t row) t (not (stays (life_of row) (line_on Con t row) t), PeriodMoved))
-    (first, (not_past m t, (own_moved_by m t (nat_le m t) refl, (not_from_true _ (and_from _ _ left v.1), (not_from_true _ still, tt))))))
+    let left : ends_after row.period.end (continued_period (life_of row) (line_on action t row) t).begin ≡ true = ap (λ (q : Period). ends_after row.period.end q.begin) (continued_as_is t row) ∙ long in
+    let still : stays (life_of row) (line_on action t row) t ≡ true = ap (same_at t row.period) (continued_as_is t row) ∙ same_at-itself t row.period in
+    none_first (on_continuing (life_of row) (line_on action t row) t (not (stays (life_of row) (line_on action t row) t), PeriodMoved))
+    (first, (not_past m t, (own_moved_by m t (nat_le m t) refl, (not_from_true _ (and_from _ _ left v.1), (not_from_true _ still, tt)))))
 
--- COR, as CON
-
-corrected_as_is : (t : ℕ) (row : Row) → continued_period (life_of row) (line_on Cor t row) t ≡ row.period
-corrected_as_is t row = continued_as_is t row
+pub con_sound : (rows : List Row) (t : ℕ) (row : Row) → row_at rows row.event row.zone ≡ Some row → is_live t row ≡ true → ends_after row.period.end row.period.begin ≡ true → IsSound rows t (line_on Con t row)
+unfolding breach_of_line
+con_sound rows t row h live long b u = rw h (kept_sound Con t row live long)
 
 pub cor_sound : (rows : List Row) (t : ℕ) (row : Row) → row_at rows row.event row.zone ≡ Some row → is_live t row ≡ true → ends_after row.period.end row.period.begin ≡ true → IsSound rows t (line_on Cor t row)
 unfolding breach_of_line
-cor_sound rows t row h live long b u =
-    let v = live_parts t row live in
-    let m = row.period.begin in
-    let first : (row.ended || not (ends_after row.period.end t)) ≡ false = or_from row.ended _ v.0 (not_from_true _ v.1) in
-    let left : ends_after row.period.end (continued_period (life_of row) (line_on Cor t row) t).begin ≡ true = ap (λ (q : Period). ends_after row.period.end q.begin) (corrected_as_is t row) ∙ long in
-    let still : stays (life_of row) (line_on Cor t row) t ≡ true = ap (same_at t row.period) (corrected_as_is t row) ∙ same_at-itself t row.period in
-    rw h (none_first (on_continuing (life_of row) (line_on Cor t row) t (not (stays (life_of row) (line_on Cor t row) t), PeriodMoved))
-    (first, (not_past m t, (own_moved_by m t (nat_le m t) refl, (not_from_true _ (and_from _ _ left v.1), (not_from_true _ still, tt))))))
+cor_sound rows t row h live long b u = rw h (kept_sound Cor t row live long)
 
 -- CAN, EXP, UPG
 

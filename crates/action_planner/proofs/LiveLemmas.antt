@@ -1,7 +1,8 @@
 -- What looks at live rows alone finds the same among rows of which the same are live.
-use Rattle.std.proofs.Common.{◌≡◌, ◌∙◌, ◌&&◌, ◌||◌, ℕ, List, [], ◌∷◌, Bool, true, false, refl, sym, ap, filter}
+use Rattle.std.proofs.Common.{◌≡◌, ◌∙◌, ◌&&◌, ℕ, List, Bool, true, sym, ap, filter}
 use Rattle.std.specs.List.{list_any}
-use Rattle.std.proofs.lemmas.Bool.{and_parts, false_from_ne_true}
+use Rattle.std.proofs.lemmas.Map.Views.{any-filter_same}
+use Rattle.std.proofs.lemmas.Bool.{and_parts}
 use Rattle.hazard_types.specs.Places.{Place}
 use Rattle.hazard_types.specs.Same.{same_zone}
 use Rattle.hazard_types.specs.declared.codes.Category.{Category}
@@ -23,16 +24,6 @@ beside_live c t ps z rows some alike =
     ∙ ap (filter (is_continued c t ps)) (alike ∙ sym (live_in_zone z t rows))
     ∙ filter_within (is_live t) (is_continued c t ps) (slice_of z rows) live
 
-any_step : (p q : Row → Bool) (b : Bool) (r : Row) (rows : List Row) → p r ≡ b → (q r ≡ true → p r ≡ true) → list_any q (filter p rows) ≡ list_any q rows → list_any q (filter p (r ∷ rows)) ≡ list_any q (r ∷ rows)
-any_step p q true r rows is own more = rw is (ap (λ (c : Bool). q r || c) more)
-any_step p q false r rows is own more =
-    let out : q r ≡ false = false_from_ne_true _ (λ h. let never : true ≡ false = sym (own h) ∙ is in cc) in
-    rw (is, out) more
-
-any_within : (p q : Row → Bool) (rows : List Row) → ((r : Row) → q r ≡ true → p r ≡ true) → list_any q (filter p rows) ≡ list_any q rows
-any_within p q [] own = refl
-any_within p q (r ∷ rows) own = any_step p q (p r) r rows refl (own r) (any_within p q rows own)
-
 overlays_live : (t : ℕ) (row r : Row) → overlays t row r ≡ true → is_live t r ≡ true
 overlays_live t row r h =
     let p = and_parts (same_zone r.zone row.zone && is_live t r && outranks r.event.hazard row.event.hazard) _ h in
@@ -44,6 +35,6 @@ pub overlaid_live : (t : ℕ) (ps : List Placed) (row : Row) (rows some : List R
 overlaid_live t ps row rows some alike =
     let q : Row → Bool = λ r. overlays t row r && is_left ps r in
     let live : (r : Row) → q r ≡ true → is_live t r ≡ true = λ r h. overlays_live t row r (and_parts (overlays t row r) (is_left ps r) h).0 in
-    sym (any_within (is_live t) q some live)
+    sym (any-filter_same q (is_live t) true live some)
     ∙ ap (list_any q) (alike ∙ sym (live_in_zone row.zone t rows))
-    ∙ any_within (is_live t) q (slice_of row.zone rows) live
+    ∙ any-filter_same q (is_live t) true live (slice_of row.zone rows)

@@ -1,24 +1,23 @@
 -- Routine lines are on number 0000, of which there is no row.
-use Rattle.std.proofs.Common.{◌≡◌, ◌∙◌, ◌&&◌, ℕ, List, [], ◌∷◌, ◌++◌, Bool, true, false, Option, Some, None, refl, ap, cond, filter, nat_le}
+use Rattle.std.proofs.Common.{◌≡◌, ◌∙◌, ◌&&◌, ℕ, List, [], ◌∷◌, ◌++◌, Bool, true, false, refl, ap, filter, nat_le}
 use Rattle.std.proofs.lemmas.Bool.{both_ways}
 use Rattle.std.specs.List.{AllByRecursion}
 use Rattle.hazard_types.specs.Places.{Place}
-use Rattle.hazard_types.specs.declared.codes.Action.TheVariants.{Con, Upg, Can, Exp}
+use Rattle.hazard_types.specs.declared.codes.Action.TheVariants.{Con}
 use Rattle.hazard_types.specs.declared.codes.Category.{Category}
 use Rattle.hazard_types.specs.declared.hazard.Event.{Event}
 use Rattle.hazard_types.specs.declared.line.Line.{Line}
 use Rattle.hazard_types.specs.declared.line.Row.{Row}
 use Rattle.office_types.specs.declared.request.Intent.{Intent}
 use Rattle.office_types.specs.declared.request.Intent.TheVariants.{Put, Finish, Restate, Routine}
-use Rattle.event_life.specs.Periods.{ends_after}
 use Rattle.event_life.specs.Products.{has_rows, is_routine, row_at}
 use Rattle.event_numbers.specs.declared.Count.{Count}
 use Rattle.event_numbers.specs.Counts.{count_of}
 use Rattle.action_planner.specs.Conditions.{AreNumbered}
 use Rattle.action_planner.specs.Placed.{Placed, event_of_intent, placed_from, zones_of}
-use Rattle.action_planner.specs.Lines.{added_lines, finish_lines, is_continued, is_near_end, is_overlaid, line_on, lines_from, lines_in, planned_lines, restate_lines}
+use Rattle.action_planner.specs.Lines.{added_lines, is_continued, line_on, lines_from, lines_in, planned_lines}
 use Rattle.action_planner.proofs.LawfulLists.{all_append, all_each, all_map}
-use Rattle.action_planner.proofs.LawfulKeys.{each_intent, each_zone, either_action, put-no_routine}
+use Rattle.action_planner.proofs.LawfulKeys.{each_intent, each_zone, finish_never, put-no_routine, restate_never}
 
 abbrev pub is_routine_intent : Intent → Bool
 is_routine_intent (Routine part) = true
@@ -46,20 +45,10 @@ module _ (rows : List Row) (t : ℕ) (all : List Placed) where
   abbrev HasZero : Line → Type 0
   HasZero line = is_routine line.action ≡ true → line.event.etn ≡ 0
 
-  finish_plain : (o : Option Row) → AllByRecursion HasZero (finish_lines rows t all o)
-  finish_plain None = tt
-  finish_plain (Some row) =
-      let plain = either_action is_routine (ends_after row.period.end t && is_overlaid rows t all row) Upg (cond (is_near_end row.period.end t) Exp Can) refl (either_action is_routine (is_near_end row.period.end t) Exp Can refl refl) in
-      (λ h. absurd (both_ways _ plain h), tt)
-
-  restate_plain : (o : Option Row) → AllByRecursion HasZero (restate_lines t o)
-  restate_plain None = tt
-  restate_plain (Some row) = ((λ h. cc), tt)
-
   zero_in : (e : Event) (i : Intent) (z : Place) → (is_routine_intent i ≡ true → e.etn ≡ 0) → AllByRecursion HasZero (lines_in rows t all e i z)
   zero_in e (Put part) z zero = ((λ h. absurd (both_ways _ (put-no_routine rows t e part z) h)), tt)
-  zero_in e (Finish part) z zero = finish_plain (row_at rows e z)
-  zero_in e (Restate part) z zero = restate_plain (row_at rows e z)
+  zero_in e (Finish part) z zero = finish_never is_routine (λ (line : Line). line.event.etn ≡ 0) refl refl refl rows t all (row_at rows e z)
+  zero_in e (Restate part) z zero = restate_never is_routine (λ (line : Line). line.event.etn ≡ 0) refl t (row_at rows e z)
   zero_in e (Routine part) z zero = ((λ h. zero refl), tt)
 
   pub routine_zero : (c : Category) → AllByRecursion IsZero all → AllByRecursion HasZero (planned_lines c rows t all)

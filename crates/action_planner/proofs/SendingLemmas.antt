@@ -1,20 +1,16 @@
 -- The rows that a draft leaves, found by their zones.
-use Rattle.std.proofs.Common.{◌≡◌, ◌∙◌, ◌&&◌, ◌||◌, ℕ, Bool, true, false, List, [], ◌∷◌, ◌++◌, filter, Option, Some, cond, unwrap_or, refl, sym, ap, if◌then◌else◌}
-use Rattle.std.specs.BTreeMap.{is_at}
+use Rattle.std.proofs.Common.{◌≡◌, ◌∙◌, ◌&&◌, ◌||◌, ℕ, Bool, true, false, List, [], ◌∷◌, ◌++◌, filter, refl, sym, ap, if◌then◌else◌}
 use Rattle.std.specs.List.{list_any}
-use Rattle.std.specs.Map.{lookup}
 use Rattle.std.proofs.lemmas.List.Folds.{list_any-append}
-use Rattle.hazard_types.specs.Places.{Place, by_place}
 use Rattle.hazard_types.specs.Same.{same_zone}
 use Rattle.hazard_types.specs.declared.line.Row.{Row}
-use Rattle.hazard_types.proofs.OrderLaws.{by_place_total, by_place_ties}
 use Rattle.event_life.specs.Higher.{outranks}
 use Rattle.event_life.specs.Periods.{is_live, overlaps}
 use Rattle.hazard_board.specs.Board.{slice_of}
 use Rattle.action_planner.specs.Placed.{Placed}
 use Rattle.action_planner.specs.Lines.{is_left, rows_by_intent, rows_by_puts, overlays, is_overlaid}
 use Rattle.action_planner.specs.Sending.{Zones, rows_in, add_row, add_rows, add_by_puts}
-use Rattle.hazard_board.proofs.Keyed.{at_one, found_after, zone_at}
+use Rattle.hazard_board.proofs.ByZoneLemmas.{items_added}
 
 added_in_turn : (zones : Zones) (xs ys : List Row) → add_rows (add_rows zones xs) ys ≡ add_rows zones (xs ++ ys)
 added_in_turn zones [] ys = refl
@@ -28,31 +24,6 @@ put_in_turn zones rows t (p ∷ ps) =
 
 pub all_put : (rows : List Row) (t : ℕ) (ps : List Placed) → add_by_puts [] rows t ps ≡ add_rows [] (rows_by_puts rows t ps)
 all_put rows t ps = put_in_turn [] rows t ps
-
--- a zone's rows are those of all rows that are in it
-
-appended : (xs ys zs : List Row) → (xs ++ ys) ++ zs ≡ xs ++ (ys ++ zs)
-appended [] ys zs = refl
-appended (x ∷ xs) ys zs = ap (λ (rest : List Row). x ∷ rest) (appended xs ys zs)
-
-nothing_more : (xs : List Row) → xs ≡ xs ++ []
-nothing_more [] = refl
-nothing_more (x ∷ xs) = ap (λ (rest : List Row). x ∷ rest) (nothing_more xs)
-
-added_by : (b : Bool) (held : Option (List Row)) (here : List Row) (row : Row) (later : List Row) → (b ≡ true → here ≡ unwrap_or held []) →
-    unwrap_or (cond b (Some (here ++ row ∷ [])) held) [] ++ later ≡ unwrap_or held [] ++ (if b then row ∷ later else later)
-added_by true held here row later same = ap (λ (rows : List Row). (rows ++ row ∷ []) ++ later) (same refl) ∙ appended (unwrap_or held []) (row ∷ []) later
-added_by false held here row later same = refl
-
-row_added : (zones : Zones) (row : Row) (z : Place) (later : List Row) → rows_in (add_row zones row) z ++ later ≡ rows_in zones z ++ (if same_zone row.zone z then row ∷ later else later)
-row_added zones row z later =
-    ap (λ (held : Option (List Row)). unwrap_or held [] ++ later) (found_after by_place by_place_total by_place_ties z row.zone (rows_in zones row.zone ++ row ∷ []) zones)
-    ∙ added_by (is_at (by_place z) row.zone) (lookup (is_at (by_place z)) zones) (rows_in zones row.zone) row later (λ h. ap (rows_in zones) (sym (at_one by_place by_place_total by_place_ties z row.zone h)))
-    ∙ ap (λ b. rows_in zones z ++ (if b then row ∷ later else later)) (zone_at z row.zone)
-
-rows_added : (zones : Zones) (rows : List Row) (z : Place) → rows_in (add_rows zones rows) z ≡ rows_in zones z ++ filter (λ (r : Row). same_zone r.zone z) rows
-rows_added zones [] z = nothing_more (rows_in zones z)
-rows_added zones (row ∷ rows) z = rows_added (add_row zones row) rows z ∙ row_added zones row z (filter (λ (r : Row). same_zone r.zone z) rows)
 
 -- what is asked of the rows of a zone, and of live rows
 
@@ -103,7 +74,7 @@ pub overlaid_in_zone : (rows : List Row) (t : ℕ) (ps : List Placed) (row : Row
 overlaid_in_zone rows t ps row zones is =
     let puts = rows_by_puts rows t ps in
     let by_put : list_any (overlays t row) (rows_in zones row.zone) ≡ list_any (overlays t row) puts =
-    ap (λ (zs : Zones). list_any (overlays t row) (rows_in zs row.zone)) is ∙ ap (list_any (overlays t row)) (rows_added [] puts row.zone) ∙ in_its_zone t row puts in
+    ap (λ (zs : Zones). list_any (overlays t row) (rows_in zs row.zone)) is ∙ ap (list_any (overlays t row)) (items_added (λ (r : Row). r.zone) [] puts row.zone) ∙ in_its_zone t row puts in
     ap (λ b. b || list_any (overlays t row) (rows_in zones row.zone)) (left_in_zone t ps row rows)
     ∙ ap (λ b. list_any (overlays t row) (filter (is_left ps) rows) || b) by_put
     ∙ sym (list_any-append (overlays t row) (filter (is_left ps) rows) puts)

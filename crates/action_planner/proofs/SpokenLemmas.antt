@@ -1,10 +1,10 @@
 -- What look-ups over a draft tell of its intents.
-use Rattle.std.proofs.Common.{◌≡◌, ◌∙◌, ◌==◌, ◌&&◌, ◌||◌, not, ℕ, Bool, true, false, List, [], ◌∷◌, Option, Some, None, Ordering, Less, Equal, Greater, cond, refl, sym, ap, is_some}
+use Rattle.std.proofs.Common.{◌≡◌, ◌∙◌, ◌==◌, ◌&&◌, ◌||◌, not, ℕ, Bool, true, false, List, [], ◌∷◌, Option, Some, None, Equal, cond, refl, sym, ap, is_some}
 use Rattle.std.specs.BTreeMap.{is_at}
 use Rattle.std.specs.BTreeSet.{insert_key}
 use Rattle.std.specs.Cmp.{IsTotalOrder}
 use Rattle.std.specs.List.{list_any}
-use Rattle.std.specs.Ordering.{ordering_then}
+use Rattle.std.proofs.Math.Bool.{or-false}
 use Rattle.std.proofs.lemmas.Bool.{and_parts, and_from, eqb-true, eq-eqb}
 use Rattle.std.proofs.lemmas.Cmp.{on_total, then_total}
 use Rattle.hazard_types.specs.Orders.{by_event}
@@ -13,7 +13,8 @@ use Rattle.hazard_types.specs.Same.{same_event, same_zone}
 use Rattle.hazard_types.specs.declared.hazard.Event.{Event}
 use Rattle.hazard_types.proofs.Equality.{event_one, event_itself, zone_one, zone_itself}
 use Rattle.hazard_types.proofs.OrderLaws.{by_event_total, by_event_ties, by_place_total, by_place_ties}
-use Rattle.hazard_board.proofs.Keyed.{at_one, at_itself, found_after, has_after, same_tests, zone_at}
+use Rattle.event_life.proofs.Keys.{then_parts}
+use Rattle.event_life.proofs.Keyed.{at_one, at_itself, found_after, has_after, same_tests, zone_at}
 use Rattle.action_planner.specs.declared.spoken.IntentsOn.{IntentsOn}
 use Rattle.action_planner.specs.declared.spoken.Spot.{Spot}
 use Rattle.action_planner.specs.Lines.{puts_or_finishes}
@@ -23,17 +24,8 @@ use Rattle.action_planner.specs.Spoken.{by_spot, spot_of, Spots, speakers_at, wi
 by_spot_total : IsTotalOrder by_spot
 by_spot_total = then_total (on_total (λ (s : Spot). s.event) by_event_total) (on_total (λ (s : Spot). s.zone) by_place_total)
 
-both_tied : (o p : Ordering) → ordering_then o p ≡ Equal → (o ≡ Equal) × (p ≡ Equal)
-both_tied Less p h = cc
-both_tied Equal p h = (refl, h)
-both_tied Greater p h = cc
-
 by_spot_ties : (a b : Spot) → by_spot a b ≡ Equal → a ≡ b
-by_spot_ties a b h =
-    let p = both_tied (by_event a.event b.event) _ h in
-    let event_is = by_event_ties a.event b.event p.0 in
-    let zone_is = by_place_ties a.zone b.zone p.1 in
-    λ i. record { event = event_is i; zone = zone_is i }
+by_spot_ties a b h = let p = then_parts (by_event a.event b.event) _ h in λ i. record { event = by_event_ties a.event b.event p.0 i; zone = by_place_ties a.zone b.zone p.1 i }
 
 spot_at : (q k : Spot) → is_at (by_spot q) k ≡ (same_event k.event q.event && same_zone k.zone q.zone)
 spot_at q k = same_tests (is_at (by_spot q) k) (same_event k.event q.event && same_zone k.zone q.zone)
@@ -46,10 +38,6 @@ spot_at q k = same_tests (is_at (by_spot q) k) (same_event k.event q.event && sa
     rw same (at_itself by_spot by_spot_total by_spot_ties q))
 
 -- the zones that are touched
-
-or_none : (b : Bool) → b ≡ (b || false)
-or_none true = refl
-or_none false = refl
 
 or_or : (a b c : Bool) → ((a || b) || c) ≡ (a || (b || c))
 or_or true b c = refl
@@ -64,7 +52,7 @@ abbrev has_zone : Place → List Place → Bool
 has_zone q zones = list_any (is_at (by_place q)) zones
 
 zones_added : (q : Place) (held zones : List Place) → has_zone q (add_zones held zones) ≡ (has_zone q held || list_any (λ (y : Place). same_zone y q) zones)
-zones_added q held [] = or_none (has_zone q held)
+zones_added q held [] = sym (or-false (has_zone q held))
 zones_added q held (z ∷ zones) =
     let rest = list_any (λ (y : Place). same_zone y q) zones in
     zones_added q (insert_key by_place held z) zones
@@ -73,7 +61,7 @@ zones_added q held (z ∷ zones) =
     ∙ moved_in (same_zone z q) (has_zone q held) rest
 
 zones_of_all : (q : Place) (held : List Place) (ps : List Placed) → has_zone q (zones_from held ps) ≡ (has_zone q held || list_any (touches q) ps)
-zones_of_all q held [] = or_none (has_zone q held)
+zones_of_all q held [] = sym (or-false (has_zone q held))
 zones_of_all q held (p ∷ ps) =
     zones_of_all q (add_zones held (zones_of p.intent)) ps
     ∙ ap (λ b. b || list_any (touches q) ps) (zones_added q held (zones_of p.intent))
@@ -138,7 +126,7 @@ module _ (asked : Option IntentsOn → Bool) (says : Placed → Bool) (step : (h
   any_says ps = list_any (λ (p : Placed). says p && speaks q.event q.zone p) ps
 
   spots_of_all : (spots : Spots) (ps : List Placed) → asked (speakers_at (spots_from spots ps) q) ≡ (asked (speakers_at spots q) || any_says ps)
-  spots_of_all spots [] = or_none (asked (speakers_at spots q))
+  spots_of_all spots [] = sym (or-false (asked (speakers_at spots q)))
   spots_of_all spots (p ∷ ps) =
       spots_of_all (add_spots spots p (zones_of p.intent)) ps
       ∙ ap (λ b. b || any_says ps) (spots_added spots p (zones_of p.intent))
@@ -166,7 +154,7 @@ other_by true n first others p is =
 other_by false n first others p is = refl
 
 other_step : (n : ℕ) (held : Option IntentsOn) (p : Placed) → has_other n (Some (with_intent held p)) ≡ (has_other n held || not (p.place == n))
-other_step n None p = sym (or_none (not (p.place == n)))
+other_step n None p = or-false (not (p.place == n))
 other_step n (Some h) p = other_by (h.first == n) n h.first h.others p refl
 
 module _ (spots : Spots) (ps : List Placed) (e : Event) (z : Place) (held : Option IntentsOn) (is : held ≡ speakers_at spots (record { event = e; zone = z })) (of : spots ≡ spots_from [] ps) where

@@ -9,6 +9,7 @@ pub mod Cases
 pub mod Spoken
 pub mod Sending
 pub mod Texts
+pub mod ZoneRules
 pub mod Plans
 pub mod Standing
 pub mod Told

@@ -11,6 +11,7 @@ use Rattle.hazard_types.specs.declared.codes.Action.TheVariants.{New, Con, Exa, 
 use Rattle.hazard_types.specs.declared.codes.Category.{Category}
 use Rattle.hazard_types.specs.declared.facts.Facts.{Facts}
 use Rattle.hazard_types.specs.declared.hazard.Event.{Event}
+use Rattle.hazard_types.specs.declared.line.Flood.{Flood}
 use Rattle.hazard_types.specs.declared.line.Line.{Line}
 use Rattle.hazard_types.specs.declared.line.Row.{Row}
 use Rattle.hazard_types.specs.declared.period.Begin.{Begin}
@@ -57,8 +58,11 @@ abbrev pub opening_line : List Row → ℕ → Event → PutPart → Place → L
 opening_line rows t e part z = opening_line_by (opening_action rows t e part part.target) t e part z
 
 -- CON where the period of the row stays, else EXT
+abbrev pub carried_line : ℕ → Event → Period → Option Flood → Row → Line
+carried_line t e p flood row = record { action = (if same_at t row.period p then Con else Ext); event = e; zone = row.zone; begin = printed_begin p.begin t; end = p.end; flood = flood }
+
 abbrev pub continuing_line : ℕ → Event → PutPart → Row → Line
-continuing_line t e part row = record { action = (if same_at t row.period (put_period_on part t row) then Con else Ext); event = e; zone = row.zone; begin = printed_begin (put_period_on part t row).begin t; end = part.end; flood = part.flood }
+continuing_line t e part row = carried_line t e (put_period_on part t row) part.flood row
 
 -- the row, where no line has ended it
 abbrev pub unless_ended : Option Row → Option Row

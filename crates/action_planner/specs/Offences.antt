@@ -81,14 +81,11 @@ not_live rows t p = zone_named refused_not_live p.event (find (is_gone rows t p.
 
 -- LeftBefore: a joining put where the zone has a row that no line has ended and that is not live
 abbrev pub joins_by : Target → Bool
-joins_by (Fresh h) = false
-joins_by (Join e) = true
+joins_by target = not (is_opening_target target)
 
 abbrev pub joins : Intent → Bool
 joins (Put part) = joins_by part.target
-joins (Finish part) = false
-joins (Restate part) = false
-joins (Routine part) = false
+joins _ = false
 
 abbrev pub was_left : List Row → ℕ → Event → Intent → Place → Bool
 was_left rows t e i z = joins i && has_row_by (λ (row : Row). not row.ended && not (is_live t row)) (row_at rows e z)
@@ -109,9 +106,7 @@ is_bad_period part t = nat_lt (minute_of part.begin t) t || not (ends_after part
 
 abbrev pub bad_period_of : ℕ → ℕ → Intent → Option Refusal
 bad_period_of t place (Put part) = if is_bad_period part t then Some (refusal.BadPeriod place) else None
-bad_period_of t place (Finish part) = None
-bad_period_of t place (Restate part) = None
-bad_period_of t place (Routine part) = None
+bad_period_of t place _ = None
 
 abbrev pub bad_period : ℕ → Placed → Option Refusal
 bad_period t p = bad_period_of t p.place p.intent
@@ -123,9 +118,7 @@ moves rows t e part z (Join d) = nat_lt t (minute_of part.begin t) && has_row_by
 
 abbrev pub is_moved : List Row → ℕ → Event → Intent → Place → Bool
 is_moved rows t e (Put part) z = moves rows t e part z part.target
-is_moved rows t e (Finish part) z = false
-is_moved rows t e (Restate part) z = false
-is_moved rows t e (Routine part) z = false
+is_moved rows t e _ z = false
 
 abbrev pub begun_moved : List Row → ℕ → Placed → Option Refusal
 begun_moved rows t p = zone_named refused_begun_moved p.event (find (is_moved rows t p.event p.intent) (zones_of p.intent))
@@ -141,9 +134,7 @@ is_open_end Ufn = true
 
 abbrev pub open_end_of : ℕ → Event → Intent → Option Refusal
 open_end_of place e (Put part) = if is_open_end part.end && not (may_stand_open (facts_of e.hazard)) then Some (refusal.NoOpenEnd place) else None
-open_end_of place e (Finish part) = None
-open_end_of place e (Restate part) = None
-open_end_of place e (Routine part) = None
+open_end_of place e _ = None
 
 abbrev pub open_end : Placed → Option Refusal
 open_end p = open_end_of p.place p.event p.intent
@@ -151,9 +142,8 @@ open_end p = open_end_of p.place p.event p.intent
 -- FloodNeeded: a put without flood values, or a routine intent, for a hazard that needs H-VTEC
 abbrev pub needed_flood_of : ℕ → Event → Intent → Option Refusal
 needed_flood_of place e (Put part) = if is_none part.flood && needs_values (facts_of e.hazard) then Some (refusal.FloodNeeded place) else None
-needed_flood_of place e (Finish part) = None
-needed_flood_of place e (Restate part) = None
 needed_flood_of place e (Routine part) = if needs_values (facts_of e.hazard) then Some (refusal.FloodNeeded place) else None
+needed_flood_of place e _ = None
 
 abbrev pub needed_flood : Placed → Option Refusal
 needed_flood p = needed_flood_of p.place p.event p.intent
@@ -161,9 +151,7 @@ needed_flood p = needed_flood_of p.place p.event p.intent
 -- FloodBarred: a put with flood values, for a hazard without
 abbrev pub barred_flood_of : ℕ → Event → Intent → Option Refusal
 barred_flood_of place e (Put part) = if is_some part.flood && not (needs_values (facts_of e.hazard)) then Some (refusal.FloodBarred place) else None
-barred_flood_of place e (Finish part) = None
-barred_flood_of place e (Restate part) = None
-barred_flood_of place e (Routine part) = None
+barred_flood_of place e _ = None
 
 abbrev pub barred_flood : Placed → Option Refusal
 barred_flood p = barred_flood_of p.place p.event p.intent
@@ -182,9 +170,7 @@ moves_site rows e part = joins_by part.target && other_site (find (λ (row : Row
 
 abbrev pub site_moved_of : List Row → Event → Intent → Option Refusal
 site_moved_of rows e (Put part) = if moves_site rows e part then Some (refusal.SiteMoved e) else None
-site_moved_of rows e (Finish part) = None
-site_moved_of rows e (Restate part) = None
-site_moved_of rows e (Routine part) = None
+site_moved_of rows e _ = None
 
 abbrev pub site_moved : List Row → Placed → Option Refusal
 site_moved rows p = site_moved_of rows p.event p.intent

@@ -1,15 +1,14 @@
 -- A draft that is sent at a minute, and the rows that its puts leave, zone by zone.
-use Rattle.std.specs.Prelude.{◌++◌, ℕ, Bool, true, false, List, [], ◌∷◌, unwrap_or}
-use Rattle.std.specs.BTreeMap.{insert_entry, is_at}
+use Rattle.std.specs.Prelude.{ℕ, Bool, true, false, List, [], ◌∷◌}
 use Rattle.std.specs.List.{list_any}
-use Rattle.std.specs.Map.{lookup}
-use Rattle.hazard_types.specs.Places.{Place, by_place}
+use Rattle.hazard_types.specs.Places.{Place}
 use Rattle.hazard_types.specs.declared.codes.Action.{Action}
 use Rattle.hazard_types.specs.declared.codes.Action.TheVariants.{New}
 use Rattle.hazard_types.specs.declared.hazard.Event.{Event}
 use Rattle.hazard_types.specs.declared.line.Row.{Row}
 use Rattle.office_types.specs.declared.request.Intent.{Intent}
 use Rattle.office_types.specs.declared.request.Intent.TheVariants.{Put, Finish, Restate, Routine}
+use Rattle.hazard_board.specs.ByZone.{items_at, add_item, add_items}
 use Rattle.action_planner.specs.Placed.{Placed}
 use Rattle.action_planner.specs.Lines.{opening_action, rows_by_intent}
 
@@ -24,15 +23,14 @@ Zones = List (Place × List Row)
 
 -- the rows of a zone
 abbrev pub rows_in : Zones → Place → List Row
-rows_in zones z = unwrap_or (lookup (is_at (by_place z)) zones) []
+rows_in zones z = items_at zones z
 
 abbrev pub add_row : Zones → Row → Zones
-add_row zones row = insert_entry by_place zones row.zone (rows_in zones row.zone ++ row ∷ [])
+add_row zones row = add_item (λ (r : Row). r.zone) zones row
 
 -- each row in its zone, behind those that are there
 abbrev pub add_rows : Zones → List Row → Zones
-add_rows zones [] = zones
-add_rows zones (row ∷ rows) = add_rows (add_row zones row) rows
+add_rows zones rows = add_items (λ (r : Row). r.zone) zones rows
 
 -- the rows of each put in turn
 abbrev pub add_by_puts : Zones → List Row → ℕ → List Placed → Zones

@@ -34,7 +34,9 @@ pub use line_laws::{
     expiring_lines_end_at_a_minute, flood_lines_have_values, flood_values_are_those_given,
     lines_are_of_the_desks_hazards, lines_have_four_digits, lines_stand_in_the_drafts_zones,
 };
+pub use lines::{is_near_end, line_on};
 pub use planning::plan;
+pub use puts::{carried_line, unless_ended};
 pub use texts::no_texts;
 pub use told_laws::{
     new_lines_draw_the_numbers, rows_tell_the_numbers, texts_say_what_their_lines_say,

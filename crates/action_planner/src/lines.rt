@@ -38,7 +38,7 @@ pub fn line_on(action: Action, t: Minute, row: &Row) -> Line
 }
 
 /// Whether the end is a minute at most 30 minutes before or after `t`.
-fn is_near_end(end: &End, t: Minute) -> bool
+pub fn is_near_end(end: &End, t: Minute) -> bool
     ensures { result ≡ is_near_end end.now t }
 {
     match end {

@@ -1,11 +1,11 @@
 //! The line, the period and the row of a put in a zone. An unended row is one that no line has
 //! ended.
 ghost use Rattle.std.specs.Prelude.{◌≡◌};
-ghost use Rattle.action_planner.specs.Lines.{minute_of, put_period, put_period_on, printed_begin, opening_action, opening_line_by, continuing_line, unless_ended, joined_row, put_line, row_after_put};
+ghost use Rattle.action_planner.specs.Lines.{minute_of, put_period, put_period_on, printed_begin, opening_action, opening_line_by, carried_line, continuing_line, unless_ended, joined_row, put_line, row_after_put};
 
 use event_life::same_at;
 use hazard_board::Board;
-use hazard_types::{Action, Begin, Event, Line, Minute, Period, Row, Zone};
+use hazard_types::{Action, Begin, Event, Flood, Line, Minute, Period, Row, Zone};
 use office_types::{PutPart, Target};
 
 /// Returns the minute of a begin: `t`, the minute of issue, for `Begin::Now`.
@@ -88,12 +88,18 @@ fn opening_line(t: Minute, event: &Event, part: &PutPart, zone: &Zone, action: A
     }
 }
 
-/// Returns the line of a put on an unended row: `CON` if its period stays the same, else `EXT`.
-fn continuing_line(t: Minute, event: &Event, part: &PutPart, row: &Row) -> Line
-    ensures { result ≡ continuing_line t event.now part.now row.now }
+/// Returns the line on an unended row that is to have this period and these flood values: `CON` if
+/// its period stays the same, else `EXT`.
+pub fn carried_line(
+    t: Minute,
+    event: &Event,
+    period: &Period,
+    flood: Option<Flood>,
+    row: &Row,
+) -> Line
+    ensures { result ≡ carried_line t event.now period.now flood row.now }
 {
-    let period = put_period_on(part, t, row);
-    let action = if same_at(t, &row.period, &period) {
+    let action = if same_at(t, &row.period, period) {
         Action::Con
     } else {
         Action::Ext
@@ -103,13 +109,20 @@ fn continuing_line(t: Minute, event: &Event, part: &PutPart, row: &Row) -> Line
         event: *event,
         zone: row.zone,
         begin: printed_begin(period.begin, t),
-        end: part.end,
-        flood: part.flood,
+        end: period.end,
+        flood,
     }
 }
 
+/// Returns the line of a put on an unended row: `CON` if its period stays the same, else `EXT`.
+fn continuing_line(t: Minute, event: &Event, part: &PutPart, row: &Row) -> Line
+    ensures { result ≡ continuing_line t event.now part.now row.now }
+{
+    carried_line(t, event, &put_period_on(part, t, row), part.flood, row)
+}
+
 /// Returns the row unless a line has ended it.
-fn unless_ended(row: Option<Row>) -> Option<Row>
+pub fn unless_ended(row: Option<Row>) -> Option<Row>
     ensures { result ≡ unless_ended row }
 {
     match row {

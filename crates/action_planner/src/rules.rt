@@ -16,7 +16,7 @@ use crate::intent_rules::{
 };
 use crate::placed::Placed;
 use crate::spoken::Spoken;
-use crate::zone_rules::{begun_moved, left_before, not_live, twice};
+use crate::zone_rules::{ZoneRule, zone_offence};
 use hazard_board::Board;
 use hazard_types::{Line, List, Minute, Oom};
 use office_types::Refusal;
@@ -64,11 +64,11 @@ fn offence(board: &Board, t: Minute, spoken: &Spoken, rule: Rule, p: &Placed) ->
 {
     match rule {
         Rule::NoEvent => not_open(board, t, p),
-        Rule::NotLive => not_live(board, t, p),
-        Rule::LeftBefore => left_before(board, t, p),
-        Rule::Twice => twice(spoken, p),
+        Rule::NotLive => zone_offence(board, t, spoken, ZoneRule::NotLive, p),
+        Rule::LeftBefore => zone_offence(board, t, spoken, ZoneRule::LeftBefore, p),
+        Rule::Twice => zone_offence(board, t, spoken, ZoneRule::Twice, p),
         Rule::BadPeriod => bad_period(t, p),
-        Rule::BegunMoved => begun_moved(board, t, p),
+        Rule::BegunMoved => zone_offence(board, t, spoken, ZoneRule::BegunMoved, p),
         Rule::NoOpenEnd => open_end(p),
         Rule::FloodNeeded => needed_flood(p),
         Rule::FloodBarred => barred_flood(p),

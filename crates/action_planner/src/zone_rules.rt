@@ -1,10 +1,10 @@
-//! The rules on an intent in each of its zones. Each rule returns the refusal for the first zone,
-//! as written, that breaks it. A row is live until a line ends it or its end comes; it is open
-//! until a line ends it or more than half an hour has passed since its end.
+//! The rules on an intent in each of its zones. A row is live until a line ends it or its end
+//! comes; it is open until a line ends it or more than half an hour has passed since its end.
 ghost use Rattle.std.specs.Prelude.{◌≡◌, ◌&&◌, not, nat_le};
-ghost use Rattle.event_life.specs.Periods.{is_live, keeps_open};
+ghost use Rattle.event_life.specs.Periods.{is_live};
 ghost use Rattle.event_life.specs.Products.{row_at};
-ghost use Rattle.action_planner.specs.Offences.{has_row_by, is_gone, not_live, joins_by, joins, was_left, left_before, is_shared, twice, is_moved, begun_moved};
+ghost use Rattle.action_planner.specs.Offences.{has_row_by, is_gone, joins_by, joins, was_left, is_shared, is_moved};
+ghost use Rattle.action_planner.specs.ZoneRules.{is_against, refused, zone_offence};
 
 use crate::placed::{Placed, zones_of};
 use crate::puts::minute_of;
@@ -13,26 +13,6 @@ use event_life::{is_live, keeps_open};
 use hazard_board::Board;
 use hazard_types::{Event, Minute, Zone};
 use office_types::{Intent, Refusal, Target};
-
-/// Whether the event has an open row in the zone.
-fn has_open_row(board: &Board, t: Minute, event: &Event, zone: &Zone) -> bool
-    ensures { result ≡ has_row_by (keeps_open t) (row_at board.now.rows event.now zone.now) }
-{
-    match board.row(*event, *zone) {
-        Some(row) => keeps_open(&row, t),
-        None => false,
-    }
-}
-
-/// Whether the event has a live row in the zone.
-fn has_live_row(board: &Board, t: Minute, event: &Event, zone: &Zone) -> bool
-    ensures { result ≡ has_row_by (is_live t) (row_at board.now.rows event.now zone.now) }
-{
-    match board.row(*event, *zone) {
-        Some(row) => is_live(&row, t),
-        None => false,
-    }
-}
 
 /// Whether the event has a row in the zone whose end has come and that no line has ended.
 fn has_lapsed_row(board: &Board, t: Minute, event: &Event, zone: &Zone) -> bool
@@ -62,8 +42,14 @@ fn is_gone(board: &Board, t: Minute, event: &Event, intent: &Intent, zone: &Zone
 {
     match intent {
         Intent::Put(_) | Intent::Routine(_) => false,
-        Intent::Finish(_) => !has_open_row(board, t, event, zone),
-        Intent::Restate(_) => !has_live_row(board, t, event, zone),
+        Intent::Finish(_) => match board.row(*event, *zone) {
+            Some(row) => !keeps_open(&row, t),
+            None => true,
+        },
+        Intent::Restate(_) => match board.row(*event, *zone) {
+            Some(row) => !is_live(&row, t),
+            None => true,
+        },
     }
 }
 
@@ -109,54 +95,62 @@ fn is_moved(board: &Board, t: Minute, event: &Event, intent: &Intent, zone: &Zon
     }
 }
 
-/// NotLive: a finish in a zone without an open row, or a restate in a zone without a live one.
-pub fn not_live(board: &Board, t: Minute, p: &Placed) -> Option<Refusal>
-    ensures { result ≡ not_live board.now.rows t p.now }
-{
-    let zone = zones_of(p.intent)
-        .iter()
-        .find(|zone| is_gone(board, t, &p.event, p.intent, zone))?;
-    Some(Refusal::NotLive {
-        event: p.event,
-        zone: *zone,
-    })
+/// A rule that an intent keeps in each of its zones, named as its refusal.
+#[derive(Clone, Copy)]
+pub enum ZoneRule {
+    /// Broken by a finish in a zone without an open row, or a restate in one without a live row.
+    NotLive,
+    /// Broken by a joining put in a zone with a row whose end has come and that no line has ended.
+    LeftBefore,
+    /// Broken where another intent is on the same event in the zone.
+    Twice,
+    /// Broken by a joining put that begins after `t`, on a live row that has begun.
+    BegunMoved,
 }
 
-/// LeftBefore: a joining put in a zone with a row whose end has come and that no line has ended.
-pub fn left_before(board: &Board, t: Minute, p: &Placed) -> Option<Refusal>
-    ensures { result ≡ left_before board.now.rows t p.now }
+/// Whether an intent breaks a rule in a zone.
+fn is_against(
+    board: &Board,
+    t: Minute,
+    spoken: &Spoken,
+    rule: ZoneRule,
+    p: &Placed,
+    zone: &Zone,
+) -> bool
+    ensures { result ≡ is_against board.now.rows t spoken.now rule p.now zone.now }
 {
-    let zone = zones_of(p.intent)
-        .iter()
-        .find(|zone| was_left(board, t, &p.event, p.intent, zone))?;
-    Some(Refusal::LeftBefore {
-        event: p.event,
-        zone: *zone,
-    })
+    match rule {
+        ZoneRule::NotLive => is_gone(board, t, &p.event, p.intent, zone),
+        ZoneRule::LeftBefore => was_left(board, t, &p.event, p.intent, zone),
+        ZoneRule::Twice => spoken.is_shared(p, zone),
+        ZoneRule::BegunMoved => is_moved(board, t, &p.event, p.intent, zone),
+    }
 }
 
-/// Twice: another intent is on the same event in the zone.
-pub fn twice(spoken: &Spoken, p: &Placed) -> Option<Refusal>
-    ensures { result ≡ twice spoken.now p.now }
+/// Returns the refusal of an event in a zone under a rule.
+fn refused(rule: ZoneRule, event: Event, zone: Zone) -> Refusal
+    ensures { result ≡ refused rule event zone }
 {
-    let zone = zones_of(p.intent)
-        .iter()
-        .find(|zone| spoken.is_shared(p, zone))?;
-    Some(Refusal::Twice {
-        event: p.event,
-        zone: *zone,
-    })
+    match rule {
+        ZoneRule::NotLive => Refusal::NotLive { event, zone },
+        ZoneRule::LeftBefore => Refusal::LeftBefore { event, zone },
+        ZoneRule::Twice => Refusal::Twice { event, zone },
+        ZoneRule::BegunMoved => Refusal::BegunMoved { event, zone },
+    }
 }
 
-/// BegunMoved: a joining put that begins after `t`, on a live row that has begun.
-pub fn begun_moved(board: &Board, t: Minute, p: &Placed) -> Option<Refusal>
-    ensures { result ≡ begun_moved board.now.rows t p.now }
+/// Returns the refusal of an intent under a rule, for the first zone, as written, that breaks it.
+pub fn zone_offence(
+    board: &Board,
+    t: Minute,
+    spoken: &Spoken,
+    rule: ZoneRule,
+    p: &Placed,
+) -> Option<Refusal>
+    ensures { result ≡ zone_offence board.now.rows t spoken.now rule p.now }
 {
     let zone = zones_of(p.intent)
         .iter()
-        .find(|zone| is_moved(board, t, &p.event, p.intent, zone))?;
-    Some(Refusal::BegunMoved {
-        event: p.event,
-        zone: *zone,
-    })
+        .find(|zone| is_against(board, t, spoken, rule, p, zone))?;
+    Some(refused(rule, p.event, *zone))
 }

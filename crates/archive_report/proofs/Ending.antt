@@ -1,14 +1,13 @@
 -- A whole run, once its end was told.
-use Rattle.std.proofs.Common.{◌≡◌, ◌≢◌, ◌∙◌, ◌⊎◌, inl, inr, ℕ, List, [], ◌++◌, refl, ap, sym, append_assoc, arith, Some, Result, Ok, Err, IfOk, IfErr, OnOk}
+use Rattle.std.proofs.Common.{◌≡◌, ◌≢◌, ◌≤◌, ◌∙◌, ◌⊎◌, inl, inr, ℕ, List, [], ◌++◌, refl, ap, sym, append_assoc, arith, Option, Some, Result, Ok, Err, IfOk, IfErr, OnOk}
 use Rattle.desk_traits.specs.Faults.{Rose}
 use Rattle.byte_streams.specs.Flows.{Adds, Outflow, Streams, streams}
 use Rattle.byte_streams.proofs.Pieces.{adds_both}
 use Rattle.product_decoder.specs.Feeding.{products_in}
-use Rattle.program_ends.specs.Ends.{fault_line, Begins, Telling}
+use Rattle.program_ends.specs.Ends.{own_line, own_status, Begins, Telling}
 use Rattle.program_ends.specs.Runs.{end_of}
 use Rattle.program_ends.specs.Steps.{IsCauseOf}
 use Rattle.program_ends.specs.declared.ends.End.{End}
-use Rattle.program_ends.specs.declared.ends.End.TheVariants.{ReadFault, WriteFault, InputTooLong, OutOfMemory}
 use Rattle.program_ends.specs.declared.reading.Stop.{Stop}
 use Rattle.program_ends.specs.declared.reading.Stop.TheVariants as stop
 use Rattle.program_ends.proofs.Finishing.{Tells, eight, has_written, no_other, told_by}
@@ -17,7 +16,8 @@ use Rattle.archive_report.specs.declared.tally.Tally.{Tally}
 use Rattle.archive_report.specs.declared.words.Asked.{Asked}
 use Rattle.archive_report.specs.Pieces.{WritesTo, ReadsAll, Reports, Halts, count_listed, rest_text}
 use Rattle.archive_report.specs.Report.{report, listed}
-use Rattle.archive_report.specs.Runs.{IsArchiveRun, lines_told}
+use Rattle.archive_report.specs.Runs.{DoesAsAsked, IsArchiveRun, IsEndLine, lines_told}
+use Rattle.archive_report.specs.Words.{asked_of}
 use Rattle.archive_report.proofs.Fronts.{report_told, listed_told}
 
 -- the rest of the report, behind the lines of the products
@@ -123,96 +123,99 @@ module _ (asked : Asked) (limit : ℕ) (before after : Streams) where
       either (inl h) = inl h.0
       either (inr h) = inr (inl h.0)
 
-no_good : (status own : ℕ) → (status ≢ 8 → status ≡ own) → own ≢ 0 → own ≢ 3 → ((status ≡ 0) ⊎ (status ≡ 3)) → ⊥
-no_good status own told p q (inl e) = p (sym (told (λ h. omega (arith, e, h))) ∙ e)
-no_good status own told p q (inr e) = q (sym (told (λ h. omega (arith, e, h))) ∙ e)
+-- the reason of a run that ended early, where its own status was returned
 
-module _ (asked : Asked) (limit : ℕ) (before after : Streams) (mid : Outflow) (status : ℕ) where
-  -- a run that ended early, for each reason
+pub was_read : (why : Stop) (status : ℕ) → (status ≢ 8 → status ≡ own_status (Some (end_of why))) → status ≡ 7 → why ≡ stop.Read
+was_read stop.Read status own e = refl
+was_read stop.Write status own e = absurd (no_other status 8 7 own (λ q. omega (arith, q)) (λ q. omega (arith, q)) e)
+was_read stop.TooLong status own e = absurd (no_other status 13 7 own (λ q. omega (arith, q)) (λ q. omega (arith, q)) e)
+was_read stop.OutOfMemory status own e = absurd (no_other status 12 7 own (λ q. omega (arith, q)) (λ q. omega (arith, q)) e)
 
-  read_failed : (t : WritesTo asked limit before (streams after.input mid) (Reports asked) (Err stop.Read)) → Rose before.input.faults after.input.faults → Telling t.text before.output after.output (Some ReadFault) status → IsArchiveRun asked limit before after status
-  read_failed t rose telling =
-      let own : status ≢ 8 → status ≡ 7 = λ no. (telling.told.others no).0 in
-      record {
-        read = t.read;
-        written = telling.written;
-        takes = t.takes;
-        adds = telling.adds;
-        within = t.within;
-        reported = λ h. absurd (no_good status 7 own (λ q. omega (arith, q)) (λ q. omega (arith, q)) h);
-        clean = λ e. absurd (no_good status 7 own (λ q. omega (arith, q)) (λ q. omega (arith, q)) (inl e));
-        against = λ e. absurd (no_good status 7 own (λ q. omega (arith, q)) (λ q. omega (arith, q)) (inr e));
-        read_fault = λ e. let told = telling.told.others (λ h. omega (arith, e, h)) in (rose, told.1, (t.read_fault refl).0, (t.text, (t.read_fault refl).1, told.2));
-        too_long = λ e. absurd (no_other status 7 13 own (λ q. omega (arith, q)) (λ q. omega (arith, q)) e);
-        no_memory = λ e. absurd (no_other status 7 12 own (λ q. omega (arith, q)) (λ q. omega (arith, q)) e);
-        write_fault = λ e. ((telling.told.cut e).0, (t.text, fault_line ReadFault, t.front, inr (inl (refl, rose, (t.read_fault refl).0)), (telling.told.cut e).1));
-        others = elim (eight status) [ inl h ↦ inr (inr (inr (inl h))) | inr h ↦ inr (inr (inl (own h))) ];
-      }
+pub was_long : (why : Stop) (status : ℕ) → (status ≢ 8 → status ≡ own_status (Some (end_of why))) → status ≡ 13 → why ≡ stop.TooLong
+was_long stop.Read status own e = absurd (no_other status 7 13 own (λ q. omega (arith, q)) (λ q. omega (arith, q)) e)
+was_long stop.Write status own e = absurd (no_other status 8 13 own (λ q. omega (arith, q)) (λ q. omega (arith, q)) e)
+was_long stop.TooLong status own e = refl
+was_long stop.OutOfMemory status own e = absurd (no_other status 12 13 own (λ q. omega (arith, q)) (λ q. omega (arith, q)) e)
 
-  too_long : (t : WritesTo asked limit before (streams after.input mid) (Reports asked) (Err stop.TooLong)) → after.input.faults ≡ before.input.faults → Telling t.text before.output after.output (Some InputTooLong) status → IsArchiveRun asked limit before after status
-  too_long t steady telling =
-      let own : status ≢ 8 → status ≡ 13 = λ no. (telling.told.others no).0 in
-      record {
-        read = t.read;
-        written = telling.written;
-        takes = t.takes;
-        adds = telling.adds;
-        within = t.within;
-        reported = λ h. absurd (no_good status 13 own (λ q. omega (arith, q)) (λ q. omega (arith, q)) h);
-        clean = λ e. absurd (no_good status 13 own (λ q. omega (arith, q)) (λ q. omega (arith, q)) (inl e));
-        against = λ e. absurd (no_good status 13 own (λ q. omega (arith, q)) (λ q. omega (arith, q)) (inr e));
-        read_fault = λ e. absurd (no_other status 13 7 own (λ q. omega (arith, q)) (λ q. omega (arith, q)) e);
-        too_long = λ e. let told = telling.told.others (λ h. omega (arith, e, h)) in ((steady, told.1), (t.too_long refl).0, (t.text, (t.too_long refl).1, told.2));
-        no_memory = λ e. absurd (no_other status 13 12 own (λ q. omega (arith, q)) (λ q. omega (arith, q)) e);
-        write_fault = λ e. ((telling.told.cut e).0, (t.text, fault_line InputTooLong, t.front, inr (inr (inl (refl, steady, (t.too_long refl).0))), (telling.told.cut e).1));
-        others = elim (eight status) [ inl h ↦ inr (inr (inr (inl h))) | inr h ↦ inr (inr (inr (inr (inr (own h))))) ];
-      }
+pub was_memory : (why : Stop) (status : ℕ) → (status ≢ 8 → status ≡ own_status (Some (end_of why))) → status ≡ 12 → why ≡ stop.OutOfMemory
+was_memory stop.Read status own e = absurd (no_other status 7 12 own (λ q. omega (arith, q)) (λ q. omega (arith, q)) e)
+was_memory stop.Write status own e = absurd (no_other status 8 12 own (λ q. omega (arith, q)) (λ q. omega (arith, q)) e)
+was_memory stop.TooLong status own e = absurd (no_other status 13 12 own (λ q. omega (arith, q)) (λ q. omega (arith, q)) e)
+was_memory stop.OutOfMemory status own e = refl
 
-  no_memory : (t : WritesTo asked limit before (streams after.input mid) (Reports asked) (Err stop.OutOfMemory)) → after.input.faults ≡ before.input.faults → Telling t.text before.output after.output (Some OutOfMemory) status → IsArchiveRun asked limit before after status
-  no_memory t steady telling =
-      let own : status ≢ 8 → status ≡ 12 = λ no. (telling.told.others no).0 in
-      record {
-        read = t.read;
-        written = telling.written;
-        takes = t.takes;
-        adds = telling.adds;
-        within = t.within;
-        reported = λ h. absurd (no_good status 12 own (λ q. omega (arith, q)) (λ q. omega (arith, q)) h);
-        clean = λ e. absurd (no_good status 12 own (λ q. omega (arith, q)) (λ q. omega (arith, q)) (inl e));
-        against = λ e. absurd (no_good status 12 own (λ q. omega (arith, q)) (λ q. omega (arith, q)) (inr e));
-        read_fault = λ e. absurd (no_other status 12 7 own (λ q. omega (arith, q)) (λ q. omega (arith, q)) e);
-        too_long = λ e. absurd (no_other status 12 13 own (λ q. omega (arith, q)) (λ q. omega (arith, q)) e);
-        no_memory = λ e. let told = telling.told.others (λ h. omega (arith, e, h)) in ((steady, told.1), (t.text, t.front, told.2));
-        write_fault = λ e. ((telling.told.cut e).0, (t.text, fault_line OutOfMemory, t.front, inr (inr (inr (refl, steady))), (telling.told.cut e).1));
-        others = elim (eight status) [ inl h ↦ inr (inr (inr (inl h))) | inr h ↦ inr (inr (inr (inr (inl (own h))))) ];
-      }
+own_fault : (why : Stop) (status : ℕ) → status ≡ own_status (Some (end_of why)) → (status ≡ 7) ⊎ (status ≡ 8) ⊎ (status ≡ 12) ⊎ (status ≡ 13)
+own_fault stop.Read status h = inl h
+own_fault stop.Write status h = inr (inl h)
+own_fault stop.TooLong status h = inr (inr (inr h))
+own_fault stop.OutOfMemory status h = inr (inr (inl h))
 
-  write_failed : (t : WritesTo asked limit before (streams after.input mid) (Reports asked) (Err stop.Write)) → after.input.faults ≡ before.input.faults → Telling t.text before.output after.output (Some WriteFault) status → IsArchiveRun asked limit before after status
-  write_failed t steady telling =
-      let own : status ≢ 8 → status ≡ 8 = λ no. (telling.told.others no).0 in
-      let is : status ≡ 8 = elim (eight status) [ inl h ↦ h | inr h ↦ own h ] in
-      record {
-        read = t.read;
-        written = telling.written;
-        takes = t.takes;
-        adds = telling.adds;
-        within = t.within;
-        reported = λ h. absurd (no_good status 8 own (λ q. omega (arith, q)) (λ q. omega (arith, q)) h);
-        clean = λ e. absurd (omega (arith, e, is));
-        against = λ e. absurd (omega (arith, e, is));
-        read_fault = λ e. absurd (omega (arith, e, is));
-        too_long = λ e. absurd (omega (arith, e, is));
-        no_memory = λ e. absurd (omega (arith, e, is));
-        write_fault = λ e. ((telling.told.cut e).0, (t.text, [], t.front, inl (refl, steady), (telling.told.cut e).1));
-        others = inr (inr (inr (inl is)));
-      }
+-- the statuses of a run that ended early
+pub fault_status : (why : Stop) (status : ℕ) → (status ≢ 8 → status ≡ own_status (Some (end_of why))) → (status ≡ 7) ⊎ (status ≡ 8) ⊎ (status ≡ 12) ⊎ (status ≡ 13)
+fault_status why status own = elim (eight status) [ inl h ↦ inr (inl h) | inr h ↦ own_fault why status (own h) ]
 
-  pub run_halted : (why : Stop) (t : WritesTo asked limit before (streams after.input mid) (Reports asked) (Err why)) → IsCauseOf {T = ℕ} stop.Read before.input.faults after.input.faults (Err why) → Telling t.text before.output after.output (Some (end_of why)) status
-      → IsArchiveRun asked limit before after status
-  run_halted stop.Read t cause telling = read_failed t (cause.rose refl) telling
-  run_halted stop.Write t cause telling = write_failed t (cause.steady (λ e. absurd (cc))) telling
-  run_halted stop.TooLong t cause telling = too_long t (cause.steady (λ e. absurd (cc))) telling
-  run_halted stop.OutOfMemory t cause telling = no_memory t (cause.steady (λ e. absurd (cc))) telling
+pub seven_on : (status : ℕ) → (status ≡ 7) ⊎ (status ≡ 8) ⊎ (status ≡ 12) ⊎ (status ≡ 13) → 7 ≤ status
+seven_on status (inl h) = omega (arith, h)
+seven_on status (inr (inl h)) = omega (arith, h)
+seven_on status (inr (inr (inl h))) = omega (arith, h)
+seven_on status (inr (inr (inr h))) = omega (arith, h)
+
+-- what was told, with the line of the reason as it is known
+pub line_of : (why k : Stop) (text written : List ℕ) → why ≡ k → written ≡ text ++ own_line (Some (end_of why)) → written ≡ text ++ own_line (Some (end_of k))
+line_of why k text written is told = told ∙ ap (λ (s : Stop). text ++ own_line (Some (end_of s))) is
+
+-- the input's count where no read failed
+pub no_read_rose : {T : Type 0} (why k : Stop) (reads reads' : ℕ) → IsCauseOf {T = T} stop.Read reads reads' (Err why) → why ≡ k → (k ≡ stop.Read → ⊥) → reads' ≡ reads
+no_read_rose {T} why k reads reads' cause is other = cause.steady (λ e. other (sym is ∙ same why stop.Read e))
+  where
+    same : (a b : Stop) → ◌≡◌ {A = Result T Stop} (Err a) (Err b) → a ≡ b
+    same a b e = cc
+
+end_line : (asked : Asked) (limit : ℕ) (before after : Streams) (why : Stop) (t : WritesTo asked limit before after (Reports asked) (Err why)) → IsCauseOf {T = ℕ} stop.Read before.input.faults after.input.faults (Err why)
+    → IsEndLine limit t.read before.input.faults after.input.faults (own_line (Some (end_of why)))
+end_line asked limit before after stop.Read t cause = inr (inl (refl, cause.rose refl, (t.read_fault refl).0))
+end_line asked limit before after stop.Write t cause = inl (refl, cause.steady (λ e. absurd (cc)))
+end_line asked limit before after stop.TooLong t cause = inr (inr (inl (refl, cause.steady (λ e. absurd (cc)), (t.too_long refl).0)))
+end_line asked limit before after stop.OutOfMemory t cause = inr (inr (inr (refl, cause.steady (λ e. absurd (cc)))))
+
+-- a run that ended early
+module _ (asked : Asked) (limit : ℕ) (before after : Streams) (mid : Outflow) (status : ℕ) (why : Stop) (t : WritesTo asked limit before (streams after.input mid) (Reports asked) (Err why)) (cause : IsCauseOf {T = ℕ} stop.Read before.input.faults after.input.faults (Err why)) (telling : Telling t.text before.output after.output (Some (end_of why)) status) where
+  own : status ≢ 8 → status ≡ own_status (Some (end_of why))
+  own other = (telling.told.others other).0
+
+  fault : (status ≡ 7) ⊎ (status ≡ 8) ⊎ (status ≡ 12) ⊎ (status ≡ 13)
+  fault = fault_status why status own
+
+  no_good : (status ≡ 0) ⊎ (status ≡ 3) → ⊥
+  no_good (inl e) = omega (arith, e, seven_on status fault)
+  no_good (inr e) = omega (arith, e, seven_on status fault)
+
+  pub run_halted : IsArchiveRun asked limit before after status
+  run_halted = record {
+    read = t.read;
+    written = telling.written;
+    takes = t.takes;
+    adds = telling.adds;
+    within = t.within;
+    reported = λ h. absurd (no_good h);
+    clean = λ e. absurd (no_good (inl e));
+    against = λ e. absurd (no_good (inr e));
+    read_fault = λ e.
+        let is = was_read why status own e in
+        let told = telling.told.others (λ h. omega (arith, e, h)) in
+        let few = t.read_fault (ap (λ (s : Stop). Err s) is) in
+        (cause.rose (ap (λ (s : Stop). Err s) is), told.1, few.0, (t.text, few.1, line_of why stop.Read t.text telling.written is told.2));
+    too_long = λ e.
+        let is = was_long why status own e in
+        let told = telling.told.others (λ h. omega (arith, e, h)) in
+        let many = t.too_long (ap (λ (s : Stop). Err s) is) in
+        ((no_read_rose {T = ℕ} why stop.TooLong before.input.faults after.input.faults cause is (λ e. absurd (cc)), told.1), many.0, (t.text, many.1, line_of why stop.TooLong t.text telling.written is told.2));
+    no_memory = λ e.
+        let is = was_memory why status own e in
+        let told = telling.told.others (λ h. omega (arith, e, h)) in
+        ((no_read_rose {T = ℕ} why stop.OutOfMemory before.input.faults after.input.faults cause is (λ e. absurd (cc)), told.1), (t.text, t.front, line_of why stop.OutOfMemory t.text telling.written is told.2));
+    write_fault = λ e. ((telling.told.cut e).0, (t.text, own_line (Some (end_of why)), t.front, end_line asked limit before (streams after.input mid) why t cause, (telling.told.cut e).1));
+    others = inr (inr fault);
+  }
 
 -- what the statuses of a run say by themselves
 
@@ -239,11 +242,21 @@ module _ (asked : Asked) (limit : ℕ) (before after : Streams) (status : ℕ) (
       some (inr (inr (inr (inr (inl h))))) = inr (inr (inl h))
       some (inr (inr (inr (inr (inr h))))) = inr (inr (inr h))
 
--- a run that halted, once its end was told
-pub run_ended : (asked : Asked) (limit : ℕ) (before after : Streams) (mid : Outflow) (status : ℕ) (why : Stop) (end : End) → WritesTo asked limit before (streams after.input mid) (Reports asked) (Err why) → IsCauseOf {T = ℕ} stop.Read before.input.faults after.input.faults (Err why) → IsCauseOf {T = ℕ} stop.Write before.output.faults mid.faults (Err why)
-    → end ≡ end_of why
-    → Tells mid after.output (Some end) status
-    → IsArchiveRun asked limit before after status
-run_ended asked limit before after mid status why end t read write is tells =
-    let has = has_written {T = ℕ} (Err why) t.text t.written before.output mid t.adds t.begins t.whole write in
-    run_halted asked limit before after mid status why t read (told_by why end t.text t.written before.output mid after.output status has is tells)
+-- What the words asked for was done by a run that halted, once its end was told.
+module _ (words : List (List ℕ)) (asked : Asked) (limit : ℕ) (before after : Streams) (mid : Outflow) (status : ℕ) (why : Stop) (end : End) where
+  run_ended : WritesTo asked limit before (streams after.input mid) (Reports asked) (Err why) → IsCauseOf {T = ℕ} stop.Read before.input.faults after.input.faults (Err why) → IsCauseOf {T = ℕ} stop.Write before.output.faults mid.faults (Err why) → end ≡ end_of why → Tells mid after.output (Some end) status
+      → IsArchiveRun asked limit before after status
+  run_ended t read write is tells =
+      run_halted asked limit before after mid status why t read (told_by why end t.text t.written before.output mid after.output status (has_written {T = ℕ} (Err why) t.text t.written before.output mid t.adds t.begins t.whole write) is tells)
+
+  pub does_ended : ◌≡◌ {A = Option Asked} (Some asked) (asked_of words) → WritesTo asked limit before (streams after.input mid) (Reports asked) (Err why) → IsCauseOf {T = ℕ} stop.Read before.input.faults after.input.faults (Err why) → IsCauseOf {T = ℕ} stop.Write before.output.faults mid.faults (Err why) → end ≡ end_of why → Tells mid after.output (Some end) status
+      → DoesAsAsked words limit before after status
+  does_ended asked_is t read write is tells =
+      let run = run_ended t read write is tells in
+      record {
+        run = rw (sym asked_is) run;
+        usage = λ e. absurd (not_two asked limit before after status run e);
+        read_fault = λ e. (run.read_fault e).0;
+        write_fault = λ e. (run.write_fault e).0;
+        complete = λ _ no_read no_write. run_complete asked limit before after status run no_read no_write;
+      }

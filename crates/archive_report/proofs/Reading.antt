@@ -33,7 +33,7 @@ pub record Ran (asked : Asked) (limit : ℕ) (tally : Tally) (before after : Str
   pub less : tally.count + length feed.rest ≤ length seen
 
 no_bytes : HasOne []
-no_bytes = record { lines = []; line = []; parts = refl; whole = refl; quiet = refl; one = omega arith }
+no_bytes = record { split = record { lines = []; line = []; parts = refl; whole = refl; quiet = refl }; one = omega arith }
 
 fresh_tallied : (asked : Asked) (tally : Tally) → IsTally asked tally → IsFresh tally → IsTallied asked [] tally
 fresh_tallied asked tally is fresh = record { fits = is; products = fresh.0; numbers = fresh.1; count = fresh.2; faults = fresh.3 }

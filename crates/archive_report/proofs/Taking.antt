@@ -29,10 +29,11 @@ few_bytes bytes = omega (arith, ap length (laid true bytes), length-append (part
 
 pub waiting_less : (old new : List ℕ) → IsWaiting old new → length new ≤ length old
 waiting_less old new w =
-    omega (arith, ap length w.parts, ap length w.kept, length-append w.lines w.line, length-append (concat (products_in w.lines)) w.line, few_bytes w.lines)
+    let s = w.split in
+    omega (arith, ap length s.parts, ap length w.kept, length-append s.lines s.line, length-append (concat (products_in s.lines)) s.line, few_bytes s.lines)
 
 pub waiting_one : (old new : List ℕ) → IsWaiting old new → HasOne old
-waiting_one old new w = record { lines = w.lines; line = w.line; parts = w.parts; whole = w.whole; quiet = w.quiet; one = w.one }
+waiting_one old new w = record { split = w.split; one = w.one }
 
 -- how many products a text has
 

@@ -1,10 +1,9 @@
 -- What a run reads and writes, for each status.
-use Rattle.std.specs.Prelude.{◌≡◌, ◌≢◌, ◌≤◌, ◌⊎◌, ℕ, ◌+◌, ◌++◌, true, List, [], length, map, take, Option, MatchOption, IsNone, IsSome}
+use Rattle.std.specs.Prelude.{◌≡◌, ◌≢◌, ◌≤◌, ◌⊎◌, ℕ, ◌+◌, ◌++◌, List, [], length, map, take, Option, MatchOption, IsNone, IsSome}
 use Rattle.desk_traits.specs.Faults.{Rose}
 use Rattle.byte_streams.specs.Flows.{Streams, Takes, Adds, IsAtEnd}
 use Rattle.product_decoder.specs.Decoded.{decode}
-use Rattle.product_decoder.specs.Feeding.{products_in, IsQuiet}
-use Rattle.product_frame.specs.LineRules.{are_ended}
+use Rattle.product_decoder.specs.Feeding.{products_in, Split}
 use Rattle.program_ends.specs.Ends.{fault_line, Begins, IsCut, IsUsage}
 use Rattle.program_ends.specs.declared.ends.End.TheVariants.{ReadFault, InputTooLong, OutOfMemory}
 use Rattle.archive_report.specs.declared.words.Asked.{Asked}
@@ -13,12 +12,8 @@ use Rattle.archive_report.specs.Words.{asked_of}
 
 -- whole lines with one heading line at most, and then a line that has not ended
 pub record HasOne (rest : List ℕ) : Type 0 where
-  pub lines : List ℕ
-  pub line : List ℕ
-  pub parts : rest ≡ lines ++ line
-  pub whole : are_ended lines ≡ true
-  pub quiet : IsQuiet line
-  pub one : length (products_in lines) ≤ 1
+  pub split : Split rest
+  pub one : length (products_in split.lines) ≤ 1
 
 -- The products that are finished within a text: they come first, whatever is to come of it, and no other of its whole heading lines has a later one behind it.
 pub record AreFinished (read : List ℕ) (texts : List (List ℕ)) : Type 0 where

@@ -1,7 +1,6 @@
 //! The lines of a report. Each function adds one to a text.
 ghost use Rattle.std.specs.Prelude.{◌≡◌, ◌++◌, length, OnOk};
-ghost use Rattle.product_decoder.specs.Decoded.{decoded_of};
-ghost use Rattle.archive_report.specs.Report.{title, counted_text, taken_line, faulty_line, product_line, breach_line, spaced, gap_line, shown_front, last_line};
+ghost use Rattle.archive_report.specs.Report.{title, counted_text, faulty_line, product_line, breach_line, spaced, gap_line, shown_front, last_line};
 ghost use Rattle.archive_report.specs.Readings.{said_of, IsNumbered};
 
 use crate::counts::count_by_frame;
@@ -10,7 +9,7 @@ use crate::texts::{breach_name, put_fault, put_stamp, put_where};
 use crate::words::Asked;
 use hazard_types::{Minute, Oom, Text, hazard_text, push_four_digits_or_more, put_number};
 use product_decoder::{Found, GapFound};
-use product_frame::{Frame, FrameFault};
+use product_frame::FrameFault;
 use std::alloc::Global;
 
 fn put_title(alloc: Global, out: &mut Text, number: usize) -> Result<(), Oom>
@@ -29,24 +28,6 @@ fn put_counted(alloc: Global, out: &mut Text, minute: Minute, count: usize) -> R
     out.push(b' ')?;
     put_number(alloc, out, count)?;
     out.push(b'\n')
-}
-
-/// Adds the line of a product without a fault.
-fn put_taken(
-    alloc: Global,
-    out: &mut Text,
-    asked: &Asked,
-    number: usize,
-    frame: &Frame,
-) -> Result<(), Oom>
-    ensures { OnOk result (out.new
-        ≡ out.old ++ taken_line asked.now number (decoded_of frame.now)) }
-{
-    let count = count_by_frame(asked, frame)?;
-    put_title(alloc, out, number)?;
-    out.extend(frame.identifier.as_slice())?;
-    out.push(b' ')?;
-    put_counted(alloc, out, frame.issue, count)
 }
 
 fn put_faulty(alloc: Global, out: &mut Text, number: usize, fault: FrameFault) -> Result<(), Oom>
@@ -77,7 +58,13 @@ pub fn put_product(
         ≡ out.old ++ product_line asked.now number (said_of reading.now)) }
 {
     match reading {
-        Ok(frame) => put_taken(alloc, out, asked, number, frame),
+        Ok(frame) => {
+            let count = count_by_frame(asked, frame)?;
+            put_title(alloc, out, number)?;
+            out.extend(frame.identifier.as_slice())?;
+            out.push(b' ')?;
+            put_counted(alloc, out, frame.issue, count)
+        },
         Err(fault) => put_faulty(alloc, out, number, *fault),
     }
 }

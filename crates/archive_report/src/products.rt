@@ -17,8 +17,12 @@ use product_frame::read_frame;
 use program_ends::Stop;
 use std::alloc::Global;
 
-/// Reads a product: its frame, or its first fault.
-fn read_product(alloc: Global, bytes: &[u8]) -> Result<Reading, Oom>
+/// Returns what was read of a product: its frame, or its first fault.
+///
+/// # Errors
+///
+/// Out of memory.
+pub fn read_product(alloc: Global, bytes: &[u8]) -> Result<Reading, Oom>
     ensures { IfOk result (λ reading. said_of reading ≡ decode bytes.now) }
 {
     match read_frame(alloc, bytes) {

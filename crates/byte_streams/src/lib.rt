@@ -6,12 +6,14 @@
 //! contracts.
 #![tactic(auto)]
 
+mod parts;
 mod real;
 mod stream_memory;
 mod streams;
 mod sure_streams;
 
-pub use real::{StdSink, StdSource};
+pub use parts::{FailedWrites, hand_out, keep, next_call};
+pub use real::{Counted, StdSink, StdSource};
 pub use stream_memory::{MemSink, MemSource};
 pub use streams::{Sink, Source, write_whole};
 pub use sure_streams::{SureSink, SureSource};

@@ -5,21 +5,28 @@ use crate::streams::{Sink, Source};
 use desk_traits::Failed;
 use std::io::{Read, Write};
 
-/// A reader with a count of its failed reads.
+/// A reader or a writer, with a count of its failed calls.
 #[derive(Drop)]
-pub struct StdSource<R> {
-    inner: R,
+pub struct Counted<T> {
+    inner: T,
     faults: u64,
 }
 
-impl<R: Read> StdSource<R> {
-    /// Returns a source that reads from `inner`.
-    pub fn new(inner: R) -> Self {
-        StdSource { inner, faults: 0 }
+impl<T> Counted<T> {
+    /// Returns a stream over `inner`, none of whose calls has failed.
+    pub fn new(inner: T) -> Self {
+        Counted { inner, faults: 0 }
     }
 }
 
-impl<R: Read> Source for StdSource<R> {
+/// A reader with a count of its failed reads.
+pub type StdSource<R> = Counted<R>;
+
+/// A writer with a count of its failed writes. A writer that takes no byte of a non-empty slice has
+/// failed.
+pub type StdSink<W> = Counted<W>;
+
+impl<R: Read> Source for Counted<R> {
     ghost inflow = { λ s. record { left = None; faults = s.faults } };
 
     ghost reads = { λ _ _. Unit {0} };
@@ -35,22 +42,7 @@ impl<R: Read> Source for StdSource<R> {
     }
 }
 
-/// A writer with a count of its failed writes. A writer that takes no byte of a non-empty slice has
-/// failed.
-#[derive(Drop)]
-pub struct StdSink<W> {
-    inner: W,
-    faults: u64,
-}
-
-impl<W: Write> StdSink<W> {
-    /// Returns a sink that writes to `inner`.
-    pub fn new(inner: W) -> Self {
-        StdSink { inner, faults: 0 }
-    }
-}
-
-impl<W: Write> Sink for StdSink<W> {
+impl<W: Write> Sink for Counted<W> {
     ghost outflow = { λ s. record { taken = None; faults = s.faults } };
 
     ghost writes = { λ _ _. Unit {0} };

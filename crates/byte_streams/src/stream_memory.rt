@@ -4,6 +4,7 @@ ghost use Rattle.desk_traits.specs.Faults.{next_count};
 ghost use Rattle.byte_streams.specs.Flows.{Reads, Writes};
 ghost use Rattle.byte_streams.specs.StreamMemory.{FailsWhereListed, inflow_of, outflow_of};
 
+use crate::parts::{FailedWrites, hand_out, keep, next_call};
 use crate::streams::{Sink, Source};
 use desk_traits::Failed;
 use hazard_types::{List, Oom, Text};
@@ -73,14 +74,8 @@ impl Source for MemSource {
         ensures called { self.new.calls ≡ next_count self.old.calls }
         ensures kept { (self.new.failing ≡ self.old.failing) × (self.new.piece ≡ self.old.piece) }
     {
-        self.calls = self.calls.saturating_add(1);
-        if self.failing.as_slice().contains(&self.calls) {
-            self.faults = self.faults.saturating_add(1);
-            return Err(Failed);
-        }
-        let rest = &self.bytes.as_slice()[self.at..];
-        let count = rest.len().min(self.piece).min(into.len());
-        into[..count].copy_from_slice(&rest[..count]);
+        next_call(&self.failing, &mut self.calls, &mut self.faults)?;
+        let count = hand_out(self.bytes.as_slice(), self.at, self.piece, into);
         self.at += count;
         Ok(count)
     }
@@ -92,8 +87,7 @@ pub struct MemSink {
     taken: Text,
     failing: List<u64>,
     calls: u64,
-    faults: u64,
-    lacked: bool,
+    faults: FailedWrites,
 }
 
 impl Model for MemSink {
@@ -101,7 +95,7 @@ impl Model for MemSink {
 
     ghost Value = { SinkInMemory };
 
-    ghost view = { λ s. record { taken = s.taken; failing = s.failing; calls = s.calls; faults = s.faults; lacked = s.lacked } };
+    ghost view = { λ s. record { taken = s.taken; failing = s.failing; calls = s.calls; faults = s.faults.count; lacked = s.faults.lacked } };
 }
 
 impl MemSink {
@@ -119,8 +113,10 @@ impl MemSink {
             taken: List::new(alloc),
             failing: failing.clone()?,
             calls: 0,
-            faults: 0,
-            lacked: false,
+            faults: FailedWrites {
+                count: 0,
+                lacked: false,
+            },
         })
     }
 
@@ -155,16 +151,8 @@ impl Sink for MemSink {
         ensures called { self.new.calls ≡ next_count self.old.calls }
         ensures kept { self.new.failing ≡ self.old.failing }
     {
-        self.calls = self.calls.saturating_add(1);
-        if self.failing.as_slice().contains(&self.calls) {
-            self.faults = self.faults.saturating_add(1);
-            return Err(Failed);
-        }
-        if self.taken.extend(bytes).is_err() {
-            self.faults = self.faults.saturating_add(1);
-            self.lacked = true;
-            return Err(Failed);
-        }
+        next_call(&self.failing, &mut self.calls, &mut self.faults.count)?;
+        keep(&mut self.taken, bytes, &mut self.faults)?;
         Ok(bytes.len())
     }
 }

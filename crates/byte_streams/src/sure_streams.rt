@@ -2,6 +2,7 @@
 ghost use Rattle.std.specs.Prelude.{◌≡◌, ◌≤◌, None, Some, drop, length, IfOk};
 ghost use Rattle.byte_streams.specs.Flows.{inflow, outflow};
 
+use crate::parts::hand_out;
 use crate::streams::{Sink, Source};
 use desk_traits::Failed;
 use hazard_types::{List, Oom, Text};
@@ -38,9 +39,7 @@ impl Source for SureSource {
     ghost reads = { λ _ _. Unit {0} };
 
     fn read(&mut self, into: &mut [u8]) -> Result<usize, Failed> {
-        let rest = &self.bytes.as_slice()[self.at..];
-        let count = rest.len().min(into.len());
-        into[..count].copy_from_slice(&rest[..count]);
+        let count = hand_out(self.bytes.as_slice(), self.at, usize::MAX, into);
         self.at += count;
         Ok(count)
     }

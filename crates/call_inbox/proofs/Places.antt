@@ -32,3 +32,11 @@ between_more b b' start end n order same =
     ap (λ (k : ℕ). take k (drop start b')) more ∙ take-add (end - start) n (drop start b')
     ∙ ap (λ (x : List ℕ). x ++ take n (drop (end - start) (drop start b'))) (between_same b b' start end order same)
     ∙ ap (λ (x : List ℕ). between b start end ++ take n x) (drop-drop (end - start) start b' ∙ ap (λ (k : ℕ). drop k b') whole)
+
+-- they stay where they were moved to, whatever was read behind them
+pub kept_still : (first lent moved filled after : List ℕ) (from to start end : ℕ) (bytes mid : List ℕ)
+    → between moved start end ≡ between lent from to → lent ≡ first → between first from to ≡ bytes → after ≡ filled
+    → start ≤ end → take end filled ≡ take end mid → mid ≡ moved → between after start end ≡ bytes
+kept_still first lent moved filled after from to start end bytes mid same is view whole order front back =
+    ap (λ (b : List ℕ). between b start end) whole ∙ between_same moved filled start end order (front ∙ ap (take end) back)
+    ∙ same ∙ ap (λ (b : List ℕ). between b from to) is ∙ view

@@ -1,37 +1,21 @@
 -- What is written for a notice keeps the line rules.
-use Rattle.std.proofs.Common.{◌≡◌, ℕ, suc, ◌+◌, ◌==◌, ◌<◌, ◌≤◌, not, Bool, true, false, List, [], ◌∷◌, ◌++◌, length, drop, map, fold, refl, ap, cond, arith, None, codes, nat_le}
-use Rattle.std.specs.List.{All, AllByRecursion, list_all, list_any}
+use Rattle.std.proofs.Common.{◌≡◌, ℕ, suc, ◌+◌, ◌==◌, ◌≤◌, not, Bool, true, false, List, [], ◌∷◌, ◌++◌, length, drop, map, refl, ap, arith, None, codes}
+use Rattle.std.specs.List.{All, AllByRecursion, list_all}
 use Rattle.std.proofs.lemmas.Bool.{and_parts, eqb-true, not-true}
-use Rattle.std.proofs.lemmas.Bool.Decides.{nat_tests}
 use Rattle.std.proofs.lemmas.List.Elements.{All-from_recursion, recursion_from_All}
-use Rattle.hazard_types.specs.Calendar.{IsCivil, civil_of, is_digit}
+use Rattle.hazard_types.specs.Calendar.{is_digit}
 use Rattle.hazard_types.specs.Characters.{is_name_byte, is_office}
-use Rattle.hazard_types.specs.Days.{day_stamp_of}
-use Rattle.hazard_types.specs.Digits.{is_day_stamp}
 use Rattle.hazard_types.specs.declared.line.SegLine.{SegLine}
 use Rattle.hazard_types.specs.declared.line.Segment.{Segment}
-use Rattle.hazard_types.specs.declared.period.End.{End}
-use Rattle.hazard_types.specs.declared.period.End.TheVariants.{At, Ufn}
-use Rattle.hazard_types.proofs.Years.{day_at_most, civil_ok}
-use Rattle.segmenter.specs.Expiry.{leaves_live, lesser, lesser_left, stands_long, expiry_of}
+use Rattle.hazard_types.proofs.DayStamps.{day_is}
+use Rattle.segmenter.specs.Expiry.{expiry_of}
+use Rattle.segmenter.proofs.ExpiryLow.{expiry_low}
 use Rattle.product_frame.specs.Parts.{heading_of, is_identifier}
 use Rattle.product_frame.specs.LineRules.{HasLocation, IsBody, IsPairWritten, IsSegmentWritten, IsWritable}
 use Rattle.notice_json.specs.declared.command.Watch.{Watch}
 use Rattle.notice_json.specs.declared.command.Watch.TheVariants.{Tornado, Thunderstorm}
 use Rattle.county_notices.specs.Notices.{IsPlainSegment, block_of, body_of, frame_of, pair_of, segment_of}
 use Rattle.county_notices.specs.declared.issuer.Issuer.{Issuer}
-
--- ---- the heading
-
-test_le : (a b : ℕ) → a ≤ b → nat_le a b ≡ true
-test_le a b h = grind (arith, nat_tests)
-
-day_by : (m : ℕ) → IsCivil (civil_of m) → is_day_stamp (day_stamp_of m) ≡ true
-day_by m c =
-    rw (test_le 1 (civil_of m).day c.first_day, test_le (civil_of m).day 31 (day_at_most (civil_of m) c), test_le (civil_of m).hour 23 (omega (arith, c.hour)), test_le (civil_of m).minute 59 (omega (arith, c.minute))) refl
-
-day_is : (m : ℕ) → m < 52596000 → is_day_stamp (day_stamp_of m) ≡ true
-day_is m lt = day_by m (civil_ok m lt)
 
 -- ---- the identifier
 
@@ -53,25 +37,6 @@ none_is f [] h = tt
 none_is f (c ∷ t) h = let p = and_parts (not (f c)) (list_all (λ c. not (f c)) t) h in (not-true (f c) p.0, none_is f t p.1)
 
 -- ---- the segments
-
-lesser_low : (k m : ℕ) (end : End) → m ≤ k → lesser m end ≤ k
-lesser_low k m (At e) le = omega arith
-lesser_low k m Ufn le = le
-
-left_low : (k m : ℕ) (b : Bool) (end : End) → m ≤ k → cond b (lesser m end) m ≤ k
-left_low k m true end le = lesser_low k m end le
-left_low k m false end le = le
-
-all_low : (k m : ℕ) (lines : List SegLine) → m ≤ k → fold lesser_left m lines ≤ k
-all_low k m [] le = le
-all_low k m (line ∷ lines) le = all_low k (lesser_left m line) lines (left_low k m (leaves_live line.action) line.end le)
-
-by_test : (k m n : ℕ) (b : Bool) → m ≤ k → n ≤ k → cond b m n ≤ k
-by_test k m n true x y = x
-by_test k m n false x y = y
-
-expiry_low : (t : ℕ) (lines : List SegLine) → expiry_of t lines ≤ t + 480
-expiry_low t lines = by_test (t + 480) (fold lesser_left (t + 480) lines) (t + 60) (list_any stands_long lines) (all_low (t + 480) (t + 480) lines (omega arith)) (omega arith)
 
 abbrev IsPlain : SegLine → Type 0
 IsPlain l = (l.event.etn ≤ 9999) × (l.flood ≡ None)

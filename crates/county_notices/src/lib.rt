@@ -1,7 +1,7 @@
 //! Answers requests for county notices of tornado and severe thunderstorm watches, whose numbers
 //! the national centre assigns, with the text of the notice or a refusal. For the program
-//! `watch_notice`; begin with `run_program`, with `notice_run` for other inputs and outputs, or
-//! with `Notices` for one line after another.
+//! `watch_notice`; begin with `CountyNotices`, which `Outside::run` of `program_outside` runs, with
+//! its `run` for other inputs and outputs, or with `Notices` for one line after another.
 #![tactic(auto)]
 
 mod issuer;
@@ -18,4 +18,4 @@ pub use laws::{
     accepted_commands_keep_the_rows, notices_leave_the_desks_numbers, notices_read_as_noted,
 };
 pub use notices::Notices;
-pub use run::{notice_run, run_notices, run_program};
+pub use run::CountyNotices;

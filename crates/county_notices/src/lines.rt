@@ -1,10 +1,10 @@
 //! The lines of a command. An unended row is one that no line has ended.
 ghost use Rattle.std.specs.Prelude.{◌≡◌, ◌++◌, IfOk, OnOk};
 ghost use Rattle.office_types.specs.declared.request.Target.TheVariants.{Fresh, Join};
-ghost use Rattle.action_planner.specs.Lines.{continuing_line, is_near_end, line_on, opening_action, opening_line_by, printed_begin, put_line, put_period_on, unless_ended};
+ghost use Rattle.action_planner.specs.Lines.{opening_action, opening_line_by, put_line, put_period_on};
 ghost use Rattle.county_notices.specs.Lines.{new_event, open_event, event_by, put_of, entering_action, ending_action, ending_lines, lines_in, lines_in_zones, lines_of};
 
-use event_life::same_at;
+use action_planner::{carried_line, is_near_end, line_on, unless_ended};
 use hazard_board::Board;
 use hazard_types::{Action, End, Event, Line, List, Minute, Oom, Period, Row, Zone, year_of};
 use notice_json::{Command, Deed};
@@ -37,17 +37,6 @@ pub fn event_by(board: &Board, command: &Command) -> Option<Event>
     match &command.deed {
         Deed::Open(_) => Some(new_event(command)),
         Deed::Join(_) | Deed::End => open_event(board, command),
-    }
-}
-
-/// Returns the begin that a line prints: `None`, printed as zeros, for a begin of at most `t`.
-fn printed_begin(begin: Minute, t: Minute) -> Option<Minute>
-    ensures { result ≡ printed_begin begin t }
-{
-    if begin.get() <= t.get() {
-        None
-    } else {
-        Some(begin)
     }
 }
 
@@ -119,36 +108,6 @@ fn joined_period(t: Minute, end: Minute, event: &Event, row: &Row) -> Period
     }
 }
 
-/// Returns the line of a join on an unended row: `CON` if its period stays the same, else `EXT`.
-fn continuing_line(t: Minute, event: &Event, end: Minute, row: &Row) -> Line
-    ensures { result ≡ continuing_line t event.now (put_of (Join event.now) end) row.now }
-{
-    let period = joined_period(t, end, event, row);
-    let action = if same_at(t, &row.period, &period) {
-        Action::Con
-    } else {
-        Action::Ext
-    };
-    Line {
-        action,
-        event: *event,
-        zone: row.zone,
-        begin: printed_begin(period.begin, t),
-        end: period.end,
-        flood: None,
-    }
-}
-
-/// Returns the row unless a line has ended it.
-fn unless_ended(row: Option<Row>) -> Option<Row>
-    ensures { result ≡ unless_ended row }
-{
-    match row {
-        Some(row) if !row.ended => Some(row),
-        _ => None,
-    }
-}
-
 /// Returns the line of a join in a zone. `entering` is the action for zones without an unended row.
 fn join_line(
     board: &Board,
@@ -164,17 +123,7 @@ fn join_line(
 {
     match unless_ended(board.row(*event, *zone)) {
         None => entering_line(entering, t, event, end, zone),
-        Some(row) => continuing_line(t, event, end, &row),
-    }
-}
-
-/// Whether the end is a minute at most 30 minutes before or after `t`.
-fn is_near_end(end: &End, t: Minute) -> bool
-    ensures { result ≡ is_near_end end.now t }
-{
-    match end {
-        End::At(minute) => minute.get() <= t.get() + 30 && t.get() <= minute.get() + 30,
-        End::Ufn => false,
+        Some(row) => carried_line(t, event, &joined_period(t, end, event, &row), None, &row),
     }
 }
 
@@ -188,20 +137,6 @@ fn ending_action(t: Minute, row: &Row) -> Action
         Action::Exp
     } else {
         Action::Can
-    }
-}
-
-/// Returns the line with this action that says the period and flood values of a row.
-fn line_on(action: Action, t: Minute, row: &Row) -> Line
-    ensures { result ≡ line_on action t row.now }
-{
-    Line {
-        action,
-        event: row.event,
-        zone: row.zone,
-        begin: printed_begin(row.period.begin, t),
-        end: row.period.end,
-        flood: row.flood,
     }
 }
 

@@ -3,34 +3,25 @@ use Rattle.std.specs.Prelude.{ℕ, List, codes}
 use Rattle.desk_clock.specs.declared.abbreviations.Abbreviation.{Abbreviation}
 use Rattle.desk_clock.specs.declared.abbreviations.Abbreviation.TheVariants.{Ast, Est, Edt, Cst, Cdt, Mst, Mdt, Pst, Pdt, Akst, Akdt, Hst, Utc, Gmt}
 
+-- the letters of an abbreviation, and how many hours its clock is behind UTC
+abbrev letters_and_hours : Abbreviation → List ℕ × ℕ
+letters_and_hours Ast = (codes "AST", 4)
+letters_and_hours Est = (codes "EST", 5)
+letters_and_hours Edt = (codes "EDT", 4)
+letters_and_hours Cst = (codes "CST", 6)
+letters_and_hours Cdt = (codes "CDT", 5)
+letters_and_hours Mst = (codes "MST", 7)
+letters_and_hours Mdt = (codes "MDT", 6)
+letters_and_hours Pst = (codes "PST", 8)
+letters_and_hours Pdt = (codes "PDT", 7)
+letters_and_hours Akst = (codes "AKST", 9)
+letters_and_hours Akdt = (codes "AKDT", 8)
+letters_and_hours Hst = (codes "HST", 10)
+letters_and_hours Utc = (codes "UTC", 0)
+letters_and_hours Gmt = (codes "GMT", 0)
+
 abbrev pub letters_of : Abbreviation → List ℕ
-letters_of Ast = codes "AST"
-letters_of Est = codes "EST"
-letters_of Edt = codes "EDT"
-letters_of Cst = codes "CST"
-letters_of Cdt = codes "CDT"
-letters_of Mst = codes "MST"
-letters_of Mdt = codes "MDT"
-letters_of Pst = codes "PST"
-letters_of Pdt = codes "PDT"
-letters_of Akst = codes "AKST"
-letters_of Akdt = codes "AKDT"
-letters_of Hst = codes "HST"
-letters_of Utc = codes "UTC"
-letters_of Gmt = codes "GMT"
+letters_of a = (letters_and_hours a).0
 
 abbrev pub hours_behind : Abbreviation → ℕ
-hours_behind Ast = 4
-hours_behind Est = 5
-hours_behind Edt = 4
-hours_behind Cst = 6
-hours_behind Cdt = 5
-hours_behind Mst = 7
-hours_behind Mdt = 6
-hours_behind Pst = 8
-hours_behind Pdt = 7
-hours_behind Akst = 9
-hours_behind Akdt = 8
-hours_behind Hst = 10
-hours_behind Utc = 0
-hours_behind Gmt = 0
+hours_behind a = (letters_and_hours a).1

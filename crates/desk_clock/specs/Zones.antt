@@ -8,39 +8,27 @@ use Rattle.desk_clock.specs.declared.abbreviations.Abbreviation.TheVariants as a
 use Rattle.desk_clock.specs.Abbreviations.{hours_behind}
 use Rattle.desk_clock.specs.Rules.{text_offset}
 
--- the POSIX rule of a zone, for all years
+-- the time of a zone: its POSIX rule for all years, the abbreviation of standard time, and that of
+-- daylight time where the zone has it
+abbrev time_of : LocalZone → List ℕ × Abbreviation × Option Abbreviation
+time_of Atlantic = (codes "AST4", abbreviation.Ast, None)
+time_of Eastern = (codes "EST5EDT,M3.2.0,M11.1.0", abbreviation.Est, Some abbreviation.Edt)
+time_of Central = (codes "CST6CDT,M3.2.0,M11.1.0", abbreviation.Cst, Some abbreviation.Cdt)
+time_of Mountain = (codes "MST7MDT,M3.2.0,M11.1.0", abbreviation.Mst, Some abbreviation.Mdt)
+time_of Arizona = (codes "MST7", abbreviation.Mst, None)
+time_of Pacific = (codes "PST8PDT,M3.2.0,M11.1.0", abbreviation.Pst, Some abbreviation.Pdt)
+time_of Alaska = (codes "AKST9AKDT,M3.2.0,M11.1.0", abbreviation.Akst, Some abbreviation.Akdt)
+time_of Hawaii = (codes "HST10", abbreviation.Hst, None)
+time_of Utc = (codes "UTC0", abbreviation.Utc, None)
+
 abbrev pub rule_text : LocalZone → List ℕ
-rule_text Atlantic = codes "AST4"
-rule_text Eastern = codes "EST5EDT,M3.2.0,M11.1.0"
-rule_text Central = codes "CST6CDT,M3.2.0,M11.1.0"
-rule_text Mountain = codes "MST7MDT,M3.2.0,M11.1.0"
-rule_text Arizona = codes "MST7"
-rule_text Pacific = codes "PST8PDT,M3.2.0,M11.1.0"
-rule_text Alaska = codes "AKST9AKDT,M3.2.0,M11.1.0"
-rule_text Hawaii = codes "HST10"
-rule_text Utc = codes "UTC0"
+rule_text z = (time_of z).0
 
 abbrev pub standard : LocalZone → Abbreviation
-standard Atlantic = abbreviation.Ast
-standard Eastern = abbreviation.Est
-standard Central = abbreviation.Cst
-standard Mountain = abbreviation.Mst
-standard Arizona = abbreviation.Mst
-standard Pacific = abbreviation.Pst
-standard Alaska = abbreviation.Akst
-standard Hawaii = abbreviation.Hst
-standard Utc = abbreviation.Utc
+standard z = (time_of z).1.0
 
 abbrev pub daylight : LocalZone → Option Abbreviation
-daylight Atlantic = None
-daylight Eastern = Some abbreviation.Edt
-daylight Central = Some abbreviation.Cdt
-daylight Mountain = Some abbreviation.Mdt
-daylight Arizona = None
-daylight Pacific = Some abbreviation.Pdt
-daylight Alaska = Some abbreviation.Akdt
-daylight Hawaii = None
-daylight Utc = None
+daylight z = (time_of z).1.1
 
 -- how far the zone's clock is ahead of UTC in a minute, in seconds; the instant is in nanoseconds from 1970
 unfoldable pub offset_of : LocalZone → ℕ → ℤ

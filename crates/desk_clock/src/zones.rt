@@ -13,52 +13,60 @@ use hazard_types::{LocalZone, Minute};
 use jiff::Timestamp;
 use jiff::tz::TimeZone;
 
-/// Returns the POSIX rule of a time zone, which the desk uses for all years.
+/// The time of a zone.
+#[derive(Drop)]
+struct ZoneTime {
+    /// The POSIX rule, which the desk uses for all years.
+    rule: &'static str,
+    /// The abbreviation of standard time.
+    standard: Abbreviation,
+    /// The abbreviation of daylight time, if the zone has it.
+    daylight: Option<Abbreviation>,
+}
+
+/// Returns the time of a zone.
 ///
 /// Source: docs/SETTINGS.md, "Settings" (key `zone`).
-fn rule_text(zone: LocalZone) -> &'static str
-    ensures { result.now ≡ rule_text zone }
+fn time_of(zone: LocalZone) -> ZoneTime
+    ensures rule { result.rule.now ≡ rule_text zone }
+    ensures standard { result.standard ≡ standard zone }
+    ensures daylight { result.daylight ≡ daylight zone }
 {
-    match zone {
-        LocalZone::Atlantic => "AST4",
-        LocalZone::Eastern => "EST5EDT,M3.2.0,M11.1.0",
-        LocalZone::Central => "CST6CDT,M3.2.0,M11.1.0",
-        LocalZone::Mountain => "MST7MDT,M3.2.0,M11.1.0",
-        LocalZone::Arizona => "MST7",
-        LocalZone::Pacific => "PST8PDT,M3.2.0,M11.1.0",
-        LocalZone::Alaska => "AKST9AKDT,M3.2.0,M11.1.0",
-        LocalZone::Hawaii => "HST10",
-        LocalZone::Utc => "UTC0",
-    }
-}
-
-/// Returns the abbreviation of standard time.
-fn standard(zone: LocalZone) -> Abbreviation
-    ensures { result ≡ standard zone }
-{
-    match zone {
-        LocalZone::Atlantic => Abbreviation::Ast,
-        LocalZone::Eastern => Abbreviation::Est,
-        LocalZone::Central => Abbreviation::Cst,
-        LocalZone::Mountain | LocalZone::Arizona => Abbreviation::Mst,
-        LocalZone::Pacific => Abbreviation::Pst,
-        LocalZone::Alaska => Abbreviation::Akst,
-        LocalZone::Hawaii => Abbreviation::Hst,
-        LocalZone::Utc => Abbreviation::Utc,
-    }
-}
-
-/// Returns the abbreviation of daylight time, if the zone has it.
-fn daylight(zone: LocalZone) -> Option<Abbreviation>
-    ensures { result ≡ daylight zone }
-{
-    match zone {
-        LocalZone::Eastern => Some(Abbreviation::Edt),
-        LocalZone::Central => Some(Abbreviation::Cdt),
-        LocalZone::Mountain => Some(Abbreviation::Mdt),
-        LocalZone::Pacific => Some(Abbreviation::Pdt),
-        LocalZone::Alaska => Some(Abbreviation::Akdt),
-        LocalZone::Atlantic | LocalZone::Arizona | LocalZone::Hawaii | LocalZone::Utc => None,
+    let (rule, standard, daylight) = match zone {
+        LocalZone::Atlantic => ("AST4", Abbreviation::Ast, None),
+        LocalZone::Eastern => (
+            "EST5EDT,M3.2.0,M11.1.0",
+            Abbreviation::Est,
+            Some(Abbreviation::Edt),
+        ),
+        LocalZone::Central => (
+            "CST6CDT,M3.2.0,M11.1.0",
+            Abbreviation::Cst,
+            Some(Abbreviation::Cdt),
+        ),
+        LocalZone::Mountain => (
+            "MST7MDT,M3.2.0,M11.1.0",
+            Abbreviation::Mst,
+            Some(Abbreviation::Mdt),
+        ),
+        LocalZone::Arizona => ("MST7", Abbreviation::Mst, None),
+        LocalZone::Pacific => (
+            "PST8PDT,M3.2.0,M11.1.0",
+            Abbreviation::Pst,
+            Some(Abbreviation::Pdt),
+        ),
+        LocalZone::Alaska => (
+            "AKST9AKDT,M3.2.0,M11.1.0",
+            Abbreviation::Akst,
+            Some(Abbreviation::Akdt),
+        ),
+        LocalZone::Hawaii => ("HST10", Abbreviation::Hst, None),
+        LocalZone::Utc => ("UTC0", Abbreviation::Utc, None),
+    };
+    ZoneTime {
+        rule,
+        standard,
+        daylight,
     }
 }
 
@@ -78,7 +86,7 @@ fn offset_at(zone: LocalZone, m: Minute) -> i32
     ensures { result ≡ offset_of zone m }
 {
     match Timestamp::from_second(946_684_800 + i64::from(m.get()) * 60) {
-        Ok(instant) => offset_by(rule_text(zone), instant),
+        Ok(instant) => offset_by(time_of(zone).rule, instant),
         Err(_) => 0,
     }
 }
@@ -90,9 +98,10 @@ fn offset_at(zone: LocalZone, m: Minute) -> i32
 pub fn abbreviation_at(zone: LocalZone, m: Minute) -> Abbreviation
     ensures { result ≡ abbreviation_at zone m }
 {
-    match daylight(zone) {
+    let time = time_of(zone);
+    match time.daylight {
         Some(summer) if offset_at(zone, m) == -3600 * i32::from(summer.hours_behind()) => summer,
-        _ => standard(zone),
+        _ => time.standard,
     }
 }
 

@@ -1,5 +1,5 @@
 -- What comes of a line that is judged.
-use Rattle.std.proofs.Common.{ℕ, ℤ, ◌==◌, length, ◌≡◌, ◌≤◌, ◌⊎◌, inl, inr, List, [], ◌∷◌, Bool, true, false, Option, None, Some, Result, Ok, Err, refl, ap, sym, ◌∙◌, subst}
+use Rattle.std.proofs.Common.{ℕ, ℤ, ◌==◌, length, ◌≡◌, ◌≤◌, ◌⊎◌, inl, inr, List, [], ◌∷◌, Bool, true, false, Option, None, Some, option_map, Bor, Result, Ok, Err, refl, ap, sym, ◌∙◌, subst}
 use Rattle.std.proofs.lemmas.Bool.{eqb-true}
 use Rattle.desk_traits.specs.declared.clocks.Clock.{Ghosts as Clocks}
 use Rattle.desk_traits.specs.declared.disk.Disk.{Ghosts as Disks}
@@ -99,3 +99,7 @@ some_bytes (c ∷ bytes) b is none e = absurd (cc)
 pub no_bytes : (bytes : List ℕ) (b : Bool) → b ≡ (length bytes == 0) → b ≡ true → bytes ≡ []
 no_bytes [] b is some = refl
 no_bytes (c ∷ bytes) b is some = absurd (let e : length (c ∷ bytes) ≡ 0 = eqb-true (length (c ∷ bytes)) 0 (sym is ∙ some) in cc)
+
+-- the bytes of a line, which is lent
+pub now_of : {line other : Option (Bor (List ℕ))} → line ≡ other → option_map (λ (bytes : Bor (List ℕ)). bytes.now) line ≡ option_map (λ (bytes : Bor (List ℕ)). bytes.now) other
+now_of is = ap (option_map (λ (bytes : Bor (List ℕ)). bytes.now)) is

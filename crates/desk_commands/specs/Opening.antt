@@ -1,5 +1,5 @@
 -- How an office is opened from the journal that a disk holds.
-use Rattle.std.specs.Prelude.{◌≡◌, ◌≤◌, ℕ, List, [], None, Some}
+use Rattle.std.specs.Prelude.{◌≡◌, ◌≤◌, ◌⊎◌, ℕ, List, [], None, Some}
 use Rattle.byte_streams.specs.Flows.{Inflow, Outflow}
 use Rattle.desk_traits.specs.Crash.{LeavesOnly}
 use Rattle.desk_traits.specs.declared.disk.Disk.{Ghosts as Disks}
@@ -49,6 +49,10 @@ module _ {D : Type 0} (d : Disks D) where
     pub end : End
     pub unopened : IsUnopened disk next end
     pub telling : Telling [] old new (Some end) status
+
+  -- no office was opened, or a run over an opened one
+  abbrev pub UnopenedOr : (D → D → Outflow → Outflow → ℕ → Type 0) → D → D → Outflow → Outflow → ℕ → Type 0
+  UnopenedOr IsRun disk next old new status = IsUnopenedRun disk next old new status ⊎ IsRun disk next old new status
 
 -- nothing was read
 pub record IsUnread (old new : Inflow) : Type 0 where

@@ -4,7 +4,7 @@ ghost use Rattle.office_journal.specs.Kept.{state_of};
 ghost use Rattle.desk_commands.specs.Opening.{IsUnopenedRun};
 ghost use Rattle.desk_commands.specs.Commands.{IsBoardAt, IsBoardRun, WritesBoard};
 
-use crate::ended::Ended;
+use crate::ended::{Ended, ended_at_once};
 use crate::opening::open;
 use byte_streams::Sink;
 use desk_traits::{Clock, Disk};
@@ -64,9 +64,6 @@ pub fn run_board<K: Sink, D: Disk, C: Clock>(
                 disk: kept.into_disk(),
             }
         }
-        Err((disk, end)) => Ended {
-            status: end_at_once(output, end),
-            disk,
-        },
+        Err((disk, end)) => ended_at_once(output, disk, end),
     }
 }

@@ -1,11 +1,10 @@
 //! The command `export`.
-ghost use Rattle.std.specs.Prelude.{◌⊎◌};
 ghost use Rattle.office_core.specs.Agreement.{texts_of};
 ghost use Rattle.office_journal.specs.Kept.{state_of};
-ghost use Rattle.desk_commands.specs.Opening.{IsUnopenedRun};
+ghost use Rattle.desk_commands.specs.Opening.{UnopenedOr};
 ghost use Rattle.desk_commands.specs.Commands.{Exported, IsExportRun};
 
-use crate::ended::Ended;
+use crate::ended::{Ended, ended_at_once};
 use crate::opening::open;
 use byte_streams::{Sink, write_whole};
 use desk_traits::{Disk, Failed};
@@ -13,7 +12,7 @@ use hazard_types::Or;
 use office_core::requests_stand_once;
 use office_journal::KeptOffice;
 use office_types::Query;
-use program_ends::{End, end_at_once, end_run};
+use program_ends::{End, end_run};
 use std::alloc::Global;
 
 /// Writes the texts of all products, in the order in which they were sent. Returns the fault at
@@ -42,9 +41,7 @@ fn write_products<D: Disk, K: Sink>(
 /// Writes the texts of all products of the office in the journal, in the order in which they were
 /// sent, and ends the run.
 pub fn run_export<K: Sink, D: Disk>(alloc: Global, output: &mut K, disk: D) -> Ended<D>
-    ensures { IsUnopenedRun D.Disk disk result.disk
-        (K.outflow output.old) (K.outflow output.new) result.status
-        ⊎ IsExportRun D.Disk disk result.disk
+    ensures { UnopenedOr D.Disk (IsExportRun D.Disk) disk result.disk
         (K.outflow output.old) (K.outflow output.new) result.status }
 {
     requests_stand_once();
@@ -57,9 +54,6 @@ pub fn run_export<K: Sink, D: Disk>(alloc: Global, output: &mut K, disk: D) -> E
                 disk: kept.into_disk(),
             }
         }
-        Err((disk, end)) => Ended {
-            status: end_at_once(output, end),
-            disk,
-        },
+        Err((disk, end)) => ended_at_once(output, disk, end),
     }
 }

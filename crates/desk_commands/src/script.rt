@@ -11,7 +11,7 @@ ghost use Rattle.desk_commands.specs.Scripts.{IsJudged};
 ghost use Rattle.desk_commands.specs.Commands.{AnswersLines, IsScriptRun};
 ghost use Rattle.desk_commands.specs.Held.{HasReferences, scripted};
 
-use crate::ended::Ended;
+use crate::ended::{Ended, ended_at_once};
 use crate::opening::open;
 use byte_streams::{Sink, Source};
 use desk_traits::{Clock, Disk};
@@ -19,7 +19,7 @@ use hazard_types::{Oom, Or};
 use office_core::requests_stand_once;
 use office_journal::{Answer, KeptOffice};
 use office_types::Refusal;
-use program_ends::{Answers, Reply, end_at_once, run_lines};
+use program_ends::{Answers, Reply, run_lines};
 use request_json::{Asked, disk_fault_text, out_of_memory_text, read_request, refusal_text};
 use std::alloc::Global;
 
@@ -112,10 +112,7 @@ pub fn run_script<S: Source, K: Sink, D: Disk, C: Clock>(
 {
     match open(alloc, disk) {
         Ok(kept) => answer_script(alloc, limit, input, output, kept, clock),
-        Err((disk, end)) => Ended {
-            status: end_at_once(output, end),
-            disk,
-        },
+        Err((disk, end)) => ended_at_once(output, disk, end),
     }
 }
 

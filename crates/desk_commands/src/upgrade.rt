@@ -1,9 +1,8 @@
 //! The command `upgrade`.
-ghost use Rattle.std.specs.Prelude.{◌⊎◌};
-ghost use Rattle.desk_commands.specs.Opening.{IsUnopenedRun};
+ghost use Rattle.desk_commands.specs.Opening.{UnopenedOr};
 ghost use Rattle.desk_commands.specs.Commands.{IsUpgradeRun, WritesUpgrade};
 
-use crate::ended::Ended;
+use crate::ended::{Ended, ended_at_once};
 use crate::opening::open;
 use byte_streams::Sink;
 use desk_traits::Disk;
@@ -28,9 +27,7 @@ fn write_upgrade<K: Sink>(output: &mut K, upgrade: Upgrade) -> u8
 /// Appends the mark of edition Two to the journal unless it is there, writes `edition 2` and ends
 /// the run. Later texts of the office are of edition Two.
 pub fn run_upgrade<K: Sink, D: Disk>(alloc: Global, output: &mut K, disk: D) -> Ended<D>
-    ensures { IsUnopenedRun D.Disk disk result.disk
-        (K.outflow output.old) (K.outflow output.new) result.status
-        ⊎ IsUpgradeRun D.Disk disk result.disk
+    ensures { UnopenedOr D.Disk (IsUpgradeRun D.Disk) disk result.disk
         (K.outflow output.old) (K.outflow output.new) result.status }
 {
     requests_stand_once();
@@ -45,9 +42,6 @@ pub fn run_upgrade<K: Sink, D: Disk>(alloc: Global, output: &mut K, disk: D) -> 
                 disk: kept.into_disk(),
             }
         }
-        Err((disk, end)) => Ended {
-            status: end_at_once(output, end),
-            disk,
-        },
+        Err((disk, end)) => ended_at_once(output, disk, end),
     }
 }

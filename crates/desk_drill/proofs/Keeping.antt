@@ -21,8 +21,10 @@ use Rattle.event_life.specs.Products.{Product}
 use Rattle.product_decoder.specs.Decoded.{decode}
 use Rattle.office_core.specs.Agreement.{ReadsAsTheBoard, product_in, products_in, texts_of}
 use Rattle.office_core.specs.Making.{broken_product, issued, made_of, products_full}
+use Rattle.office_core.specs.Prepared.{IsReady, Readied}
 use Rattle.office_core.specs.State.{State, first_state, last_number, last_of}
 use Rattle.office_core.specs.Step.{Accepts, Refuses, Repeats, entry_of, state_after}
+use Rattle.office_core.specs.Views.{OfficeView}
 use Rattle.office_core.specs.declared.heard.LastRequest.{LastRequest}
 use Rattle.office_core.specs.declared.made.Made.{Made}
 use Rattle.desk_drill.specs.Keeping.{HasRead, HasReadOne, IsKept, drilled_of}
@@ -195,7 +197,7 @@ pub record IsTaken (s : State) (place t : ℕ) (part : PutPart) (entry : Entry) 
   pub accepts : Accepts s (desk_at place) (next_number s (desk_at place)) (Issue part) (pos t) entry.minute (Some one)
   pub entry_is : entry ≡ entry_of s (desk_at place) (next_number s (desk_at place)) (Issue part) entry.minute (Some one)
 
-pub taken : (s' s : State) (d : List ℕ) (n place t : ℕ) (r : ℤ) (part : PutPart) (entry : Entry) (made : Option Made)
+taken : (s' s : State) (d : List ℕ) (n place t : ℕ) (r : ℤ) (part : PutPart) (entry : Entry) (made : Option Made)
     → s' ≡ s → d ≡ desk_at place → n ≡ next_number s (desk_at place) → r ≡ pos t
     → Accepts s' d n (Issue part) r entry.minute made → entry ≡ entry_of s' d n (Issue part) entry.minute made → IsTaken s place t part entry made
 taken s' s d n place t r part entry made es ed en er a is =
@@ -214,6 +216,17 @@ taken s' s d n place t r part entry made es ed en er a is =
       accepts = subst (λ (o : Option Made). Accepts s (desk_at place) (next_number s (desk_at place)) (Issue part) (pos t) entry.minute o) m.is a4;
       entry_is = subst (λ (o : Option Made). entry ≡ entry_of s (desk_at place) (next_number s (desk_at place)) (Issue part) entry.minute o) m.is f3;
     }
+
+-- the number that a request gets
+pub next_is : (d : DrillDesk) (place : ℕ) → IsKept d → place < 4 → slice_index d.numbers place + 1 ≡ next_number d.office.state (desk_at place)
+next_is d place kept low = ap (λ (ns : List ℕ). slice_index ns place + 1) kept.numbered ∙ ap (λ (n : ℕ). n + 1) (number_at d.office.state place low)
+
+-- it was made ready under that number
+pub taken_by : (o : OfficeView) (d : DrillDesk) (desk : List ℕ) (place t : ℕ) (r : ℤ) (part : PutPart) (p : Readied)
+    → o.state ≡ d.office.state → desk ≡ desk_at place → IsKept d → place < 4 → r ≡ pos t → IsReady o desk (slice_index d.numbers place + 1) (Issue part) r p
+    → IsTaken d.office.state place t part p.entry p.made
+taken_by o d desk place t r part p same is kept low reading ready =
+    taken o.state d.office.state desk (slice_index d.numbers place + 1) place t r part p.entry p.made same is (next_is d place kept low) reading ready.accepted ready.entry
 
 some_opened : (made : Option Made) (one : Made) (before now : List Event) → made ≡ Some one → option_map (λ (m : Made). before ++ m.opened) made ≡ Some now → now ≡ before ++ one.opened
 some_opened None one before now is h = absurd (cc)
@@ -270,10 +283,6 @@ refused_core d state desk n place t r part x ed en er broken same =
     inl (record { rule = x; broken = b3; after = same_drilled _ _ _ _ _ _ _ _ same refl refl refl })
 
 -- ---- bounds
-
--- the number that a request gets
-pub next_is : (d : DrillDesk) (place : ℕ) → IsKept d → place < 4 → slice_index d.numbers place + 1 ≡ next_number d.office.state (desk_at place)
-next_is d place kept low = ap (λ (ns : List ℕ). slice_index ns place + 1) kept.numbered ∙ ap (λ (n : ℕ). n + 1) (number_at d.office.state place low)
 
 pub number_low : (d : DrillDesk) (place : ℕ) → IsKept d → length d.office.state.products < 8192 → slice_index d.numbers place < 8192
 number_low d place kept few = omega (arith, low_at d.accepted d.numbers place kept.low, kept.counted, few)

@@ -12,10 +12,11 @@ use Rattle.std.proofs.lemmas.Bool.Decides.{nat_tests}
 use Rattle.office_types.specs.Desks.{is_desk_name}
 use Rattle.hazard_types.specs.Places.{IsPlace, Place, are_letters, by_place, is_number}
 use Rattle.hazard_types.specs.declared.zone.Kind.TheVariants as kind
-use Rattle.desk_settings.specs.AreSettings.{HasForms, training_headings}
-use Rattle.desk_settings.specs.Forms.{is_heading, is_zone_name}
+use Rattle.desk_settings.specs.AreSettings.{HasForms, training_of}
+use Rattle.desk_settings.specs.Forms.{is_zone_name}
 use Rattle.desk_settings.specs.declared.settings.Settings.{Settings}
-use Rattle.desk_drill.specs.Office.{drill_desks, drill_settings, drill_zones, plain}
+use Rattle.desk_settings.proofs.TrainingForms.{given_forms as training_forms}
+use Rattle.desk_drill.specs.Office.{drill_desks, drill_office, drill_settings, drill_zones, plain}
 use Rattle.desk_drill.specs.Requests.{zone_at, zones_from}
 
 pub no_zones : (i : ℕ) → zones_from i 0 ≡ []
@@ -122,13 +123,9 @@ zone_names : AllByRecursion (λ (n : List ℕ). IsTrue (is_zone_name n)) (values
 unfolding drill_zones
 zone_names = names (zones_from 0 2000)
 
-headings_have_forms : AllByRecursion (λ (h : List ℕ). IsTrue (is_heading h)) training_headings
-unfolding training_headings
-headings_have_forms = (refl, (refl, (refl, (refl, (refl, (refl, (refl, (refl, tt))))))))
-
-eight : length training_headings ≡ 8
-unfolding training_headings
-eight = refl
+-- the headings are those of training
+as_training : HasForms (training_of drill_office)
+as_training = training_forms drill_office (Ok (training_of drill_office)) refl refl
 
 drill_forms : HasForms drill_settings
 unfolding IsDistinct
@@ -140,8 +137,8 @@ drill_forms = record {
   few_desks = lit≤ tt;
   desk_forms = All-from_recursion (λ (d : List ℕ). IsTrue (is_desk_name d)) drill_desks (refl, (refl, (refl, (refl, tt))));
   desks_once = ((refl, (refl, (refl, tt))), ((refl, (refl, tt)), ((refl, tt), (tt, tt))));
-  eight = eight;
-  heading_forms = All-from_recursion (λ (h : List ℕ). IsTrue (is_heading h)) training_headings headings_have_forms;
+  eight = as_training.eight;
+  heading_forms = as_training.heading_forms;
   zone_order = subst (IsStrictlySortedBy by_place) (sym zone_keys) (in_order 0 2000 (lit≤ tt));
   zone_forms = subst (All IsPlace) (sym zone_keys) (are_places 0 2000);
   name_forms = All-from_recursion (λ (n : List ℕ). IsTrue (is_zone_name n)) (values_of drill_zones) zone_names;

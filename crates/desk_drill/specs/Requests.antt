@@ -8,8 +8,8 @@ use Rattle.hazard_types.specs.declared.period.Begin.TheVariants as begin
 use Rattle.hazard_types.specs.declared.period.End.TheVariants as end
 use Rattle.office_types.specs.declared.request.PutPart.{PutPart}
 use Rattle.office_types.specs.declared.request.Target.TheVariants.{Fresh}
-use Rattle.office_types.specs.declared.request.Texts.{Texts}
 use Rattle.hazard_types.specs.declared.zone.Kind.TheVariants as kind
+use Rattle.action_planner.specs.Texts.{no_texts}
 use Rattle.desk_drill.specs.Draws.{drawn, next_draw}
 
 -- the letters of zone i
@@ -40,9 +40,6 @@ hazard_at place =
 -- the minute of request i: every five minutes from 180101T0000Z on
 abbrev pub minute_at : ℕ → ℕ
 minute_at i = 9468000 + 5 * i
-
-abbrev pub no_texts : Texts
-no_texts = record { what = []; area = []; impacts = []; details = [] }
 
 -- by what was drawn first and then, at a minute: a hazard in six zones, from now on for 240 minutes, without texts
 abbrev pub part_of : ℕ → ℕ → ℕ → PutPart

@@ -6,11 +6,12 @@ ghost use Rattle.hazard_types.specs.Places.{IsPlace, are_letters};
 ghost use Rattle.request_json.specs.Formed.{IsHazard, IsIssuePart};
 ghost use Rattle.desk_drill.specs.Draws.{next_draw};
 ghost use Rattle.desk_drill.specs.Keeping.{issued_by};
-ghost use Rattle.desk_drill.specs.Requests.{desk_at, hazard_at, letters_at, minute_at, no_texts, part_of, request_at, zone_at, zones_from};
+ghost use Rattle.desk_drill.specs.Requests.{desk_at, hazard_at, letters_at, minute_at, part_of, request_at, zone_at, zones_from};
 
 use crate::draws::Draws;
+use action_planner::no_texts;
 use hazard_types::{Begin, End, Hazard, Kind, List, Minute, Oom, Phen, Sig, Zone};
-use office_types::{Desk, PutPart, Target, Texts};
+use office_types::{Desk, PutPart, Target};
 use std::alloc::Global;
 
 /// The minute 180101T0000Z, since 2000-01-01T00:00Z UTC.
@@ -137,18 +138,6 @@ fn minute_after_start(count: u32) -> Minute
     match Minute::new(FIRST_MINUTE + count) {
         Some(minute) => minute,
         None => unreachable!(),
-    }
-}
-
-/// Empty texts.
-fn no_texts(alloc: Global) -> Texts
-    ensures { result ≡ no_texts }
-{
-    Texts {
-        what: List::new(alloc),
-        area: List::new(alloc),
-        impacts: List::new(alloc),
-        details: List::new(alloc),
     }
 }
 

@@ -1,11 +1,11 @@
 //! A dialer in memory, which lends the links that it was made with.
-ghost use Rattle.std.specs.Prelude.{◌≡◌, ◌⊎◌, ◌<◌, ◌+◌, ◌++◌, ◌∷◌, ◌^◌, ◌↔◌, [], All};
+ghost use Rattle.std.specs.Prelude.{◌≡◌, ◌⊎◌, ◌<◌, ◌+◌, ◌++◌, ◌∷◌, ◌^◌, ◌↔◌, []};
 ghost use Rattle.std.specs.Prelude.{length, min, Some, Contains, IfOk, OnOk, OnErr, IsErr};
 ghost use Rattle.desk_traits.specs.Faults.{next_count};
 ghost use Rattle.byte_streams.specs.Flows.{Reads};
 ghost use Rattle.desk_links.specs.Links.{GivesLink, HandsOut, with_count};
-ghost use Rattle.desk_links.specs.LinkMemory.{IsUntouched, KeepsIn, KeepsOut, Lends, door_state};
-ghost use Rattle.desk_links.specs.LinkMemory.{door_with, link_input, link_output, link_state};
+ghost use Rattle.desk_links.specs.LinkMemory.{KeepsIn, KeepsOut, Lends, door_state};
+ghost use Rattle.desk_links.specs.LinkMemory.{link_input, link_output, link_state};
 ghost use Rattle.desk_links.specs.LinkMemory.{next_piece};
 
 use crate::dialer::{Dialer, Peer};
@@ -14,8 +14,7 @@ use crate::link::Link;
 use crate::link_memory::MemLink;
 use byte_streams::{Sink, Source};
 use desk_traits::Failed;
-use hazard_types::{List, Oom, Text};
-use std::alloc::Global;
+use hazard_types::Text;
 use std::marker::Model;
 
 /// A link in memory whose reads fail where its bytes end.
@@ -126,45 +125,9 @@ impl Peer for MemPeer {
 }
 
 /// A dialer that lends its links in order. It fails at given dials, and once no link is left.
-#[derive(Drop)]
-pub struct MemDialer {
-    links: LentLinks,
-}
+pub type MemDialer = LentLinks;
 
-impl Model for MemDialer {
-    ghost use Rattle.desk_links.specs.LinkMemory.{DoorInMemory};
-
-    ghost Value = { DoorInMemory };
-
-    ghost view = { λ d. d.links };
-}
-
-impl MemDialer {
-    /// Returns a dialer of `links`. Dial n, counted from 1, fails if n is in `failing`, and so does
-    /// each dial once no link is left.
-    ///
-    /// # Errors
-    ///
-    /// Out of memory.
-    pub fn new(alloc: Global, links: List<MemLink>, failing: &List<u64>) -> Result<Self, Oom>
-        requires { All IsUntouched links }
-        ensures { IfOk result (λ dialer. dialer ≡ door_with links failing.now) }
-    {
-        let failing = failing.clone()?;
-        Ok(MemDialer {
-            links: LentLinks::new(alloc, links, failing)?,
-        })
-    }
-
-    /// Returns the returned links, in order.
-    pub fn links(&self) -> &[MemLink]
-        ensures { result.now ≡ self.now.back }
-    {
-        self.links.back()
-    }
-}
-
-impl Dialer for MemDialer {
+impl Dialer for LentLinks {
     type Link = MemPeer;
 
     ghost state = { door_state };
@@ -175,7 +138,7 @@ impl Dialer for MemDialer {
         ensures gives { GivesLink link_state (door_state self.old) (door_state self.new) result }
         ensures lends { Lends self.old self.new result }
     {
-        let link = self.links.lend()?;
+        let link = self.lend()?;
         Ok(MemPeer { link })
     }
 
@@ -186,7 +149,7 @@ impl Dialer for MemDialer {
         ensures given { self.new.given ≡ self.old.given }
     {
         let count = link.link.all_faults();
-        self.links.add_faults(count);
-        self.links.take_back(link.link);
+        self.add_faults(count);
+        self.take_back(link.link);
     }
 }

@@ -49,15 +49,15 @@ impl LentLinks {
     /// # Errors
     ///
     /// Out of memory.
-    pub fn new(alloc: Global, links: List<MemLink>, failing: List<u64>) -> Result<Self, Oom>
+    pub fn new(alloc: Global, links: List<MemLink>, failing: &List<u64>) -> Result<Self, Oom>
         requires { All IsUntouched links }
-        ensures { IfOk result (λ lent. lent ≡ door_with links failing) }
+        ensures { IfOk result (λ lent. lent ≡ door_with links failing.now) }
     {
         let back = Vec::with_capacity(alloc, links.len())?;
         Ok(LentLinks {
             waiting: VecDeque::from_vec(links.into_vec()),
             back,
-            failing,
+            failing: failing.clone()?,
             calls: 0,
             faults: 0,
             given: 0,
@@ -102,7 +102,7 @@ impl LentLinks {
     }
 
     /// Returns the returned links, in order.
-    pub fn back(&self) -> &[MemLink]
+    pub fn links(&self) -> &[MemLink]
         ensures { result.now ≡ self.now.back }
     {
         &self.back

@@ -8,7 +8,7 @@ ghost use Rattle.desk_links.specs.LinkMemory.{KeepsIn, KeepsOut, link_input, lin
 ghost use Rattle.desk_links.specs.LinkMemory.{link_with, next_piece, with_failed_read};
 
 use crate::link::Link;
-use byte_streams::{Sink, Source};
+use byte_streams::{FailedWrites, Sink, Source, hand_out, keep, next_call};
 use desk_traits::Failed;
 use hazard_types::{List, Oom, Text};
 use std::alloc::Global;
@@ -24,8 +24,7 @@ pub struct MemLink {
     failing: List<u64>,
     calls: u64,
     read_faults: u64,
-    write_faults: u64,
-    lacked: bool,
+    write_faults: FailedWrites,
 }
 
 impl Model for MemLink {
@@ -42,8 +41,8 @@ impl Model for MemLink {
       failing = l.failing;
       calls = l.calls;
       read_faults = l.read_faults;
-      write_faults = l.write_faults;
-      lacked = l.lacked;
+      write_faults = l.write_faults.count;
+      lacked = l.write_faults.lacked;
     } };
 
     ghost invariant = { λ l. (l.at ≤ length l.bytes) × (1 ≤ l.piece) };
@@ -69,8 +68,10 @@ impl MemLink {
             failing: failing.clone()?,
             calls: 0,
             read_faults: 0,
-            write_faults: 0,
-            lacked: false,
+            write_faults: FailedWrites {
+                count: 0,
+                lacked: false,
+            },
         })
     }
 
@@ -108,7 +109,7 @@ impl MemLink {
     pub(crate) fn all_faults(&self) -> u64
         ensures { result ≡ min (self.now.read_faults + self.now.write_faults) (2 ^ 64 - 1) }
     {
-        self.read_faults.saturating_add(self.write_faults)
+        self.read_faults.saturating_add(self.write_faults.count)
     }
 }
 
@@ -131,14 +132,8 @@ impl Source for MemLink {
         ensures kept { (self.new.failing ≡ self.old.failing) × (self.new.piece ≡ self.old.piece)
             × (self.new.lacked ≡ self.old.lacked) }
     {
-        self.calls = self.calls.saturating_add(1);
-        if self.failing.as_slice().contains(&self.calls) {
-            self.read_faults = self.read_faults.saturating_add(1);
-            return Err(Failed);
-        }
-        let rest = &self.bytes.as_slice()[self.at..];
-        let count = rest.len().min(self.piece).min(into.len());
-        into[..count].copy_from_slice(&rest[..count]);
+        next_call(&self.failing, &mut self.calls, &mut self.read_faults)?;
+        let count = hand_out(self.bytes.as_slice(), self.at, self.piece, into);
         self.at += count;
         Ok(count)
     }
@@ -169,16 +164,8 @@ impl Sink for MemLink {
         ensures called { self.new.calls ≡ next_count self.old.calls }
         ensures kept { (self.new.failing ≡ self.old.failing) × (self.new.piece ≡ self.old.piece) }
     {
-        self.calls = self.calls.saturating_add(1);
-        if self.failing.as_slice().contains(&self.calls) {
-            self.write_faults = self.write_faults.saturating_add(1);
-            return Err(Failed);
-        }
-        if self.written.extend(bytes).is_err() {
-            self.write_faults = self.write_faults.saturating_add(1);
-            self.lacked = true;
-            return Err(Failed);
-        }
+        next_call(&self.failing, &mut self.calls, &mut self.write_faults.count)?;
+        keep(&mut self.written, bytes, &mut self.write_faults)?;
         Ok(bytes.len())
     }
 }

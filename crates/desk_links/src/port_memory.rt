@@ -43,7 +43,7 @@ impl MemDoor {
         requires { All IsUntouched links }
         ensures { IfOk result (λ door. door ≡ door_with links failing) }
     {
-        let links = LentLinks::new(alloc, links, failing)?;
+        let links = LentLinks::new(alloc, links, &failing)?;
         let mut node = LinkedList::new(alloc);
         node.push_back(List::new(alloc))?;
         Ok(MemDoor { links, node })
@@ -219,7 +219,7 @@ impl Port for MemPort {
         ensures faults { self.new.faults ≡ min (self.old.faults + door.faults) (2 ^ 64 - 1) }
     {
         self.faults = self.faults.saturating_add(door.links.faults());
-        if door.links.back().is_empty() {
+        if door.links.links().is_empty() {
             return;
         }
         let mut node = door.into_node();

@@ -1,16 +1,11 @@
 -- What an accepted issue makes of the training office.
-use Rattle.std.proofs.Common.{◌≡◌, ◌≤◌, ◌<◌, ◌==◌, ◌+◌, ◌∙◌, inr, ℕ, ℤ, pos, Bool, true, false, cond, List, [], ◌∷◌, length, nat_le, Option, None, Some, IsSome, option_map, Result, Ok, Err, IfOk, OnOk, OnErr, refl, ap, sym, subst, arith, length-append}
-use Rattle.std.proofs.lemmas.Bool.Decides.{nat_tests}
+use Rattle.std.proofs.Common.{◌≡◌, ◌≤◌, ◌<◌, ◌==◌, ◌+◌, ◌∙◌, inr, ℕ, ℤ, pos, true, false, List, [], ◌∷◌, length, Option, None, Some, option_map, Result, Ok, Err, IfOk, OnOk, OnErr, refl, ap, sym, subst, arith, length-append}
 use Rattle.std.proofs.lemmas.Bool.{ne_eqb}
-use Rattle.std.specs.Option.{option_or}
-use Rattle.office_types.specs.declared.refusal.Refusal.TheVariants as refusal
 use Rattle.office_types.specs.declared.request.Entry.{Entry}
-use Rattle.office_types.specs.declared.request.Plan.{Plan}
 use Rattle.office_types.specs.declared.request.PutPart.{PutPart}
 use Rattle.office_types.specs.declared.request.Reply.{Reply as Kept}
 use Rattle.office_types.specs.declared.request.Request.TheVariants.{Issue}
 use Rattle.office_core.specs.Agreement.{ReadsAsTheBoard}
-use Rattle.office_core.specs.Making.{broken_product, issued, made_of, products_full}
 use Rattle.office_core.specs.Rules.{minute_of}
 use Rattle.office_core.specs.State.{State, last_number, last_of}
 use Rattle.office_core.specs.Step.{Accepts, Repeats, entry_of, state_after}
@@ -19,32 +14,8 @@ use Rattle.office_types.specs.declared.refusal.Refusal.TheVariants.{LineTooLong}
 use Rattle.program_ends.specs.Replies.{bytes_of}
 use Rattle.program_ends.specs.declared.reply.Reply.{Reply}
 use Rattle.desk_commands.specs.Lines.{refusal_line}
+use Rattle.desk_drill.proofs.Keeping.{has_made}
 use Rattle.desk_program.specs.Training.{Replies, Trained, AnswersIssue, IsAccepted, IsTraining, dry_desk, next_number}
-
-or_last : {X : Type 0} (a b : Option X) → option_or a b ≡ None → b ≡ None
-or_last None b h = h
-or_last (Some x) b h = absurd (cc)
-
-free : {X : Type 0} (t : Bool) (x : X) → cond t (Some x) None ≡ None → t ≡ false
-free true x h = absurd (cc)
-free false x h = refl
-
-below : (a b : ℕ) → nat_le a b ≡ false → b < a
-below a b h = grind (arith, nat_tests)
-
-room : (s : State) (t : ℕ) (plan : Plan) → broken_product s t plan ≡ None → length s.products < 8192
-unfolding broken_product
-room s t plan h =
-    below 8192 (length s.products) (free (nat_le 8192 (length s.products)) refusal.ProductsFull (or_last _ (products_full s) h))
-
--- an accepted issue makes a product, and there was room for it
-pub record HasMade (s : State) (made : Option Made) : Type 0 where
-  pub one : Made
-  pub is : made ≡ Some one
-  pub room : length s.products < 8192
-
-pub has_made : (s : State) (seq : ℕ) (part : PutPart) (reading : ℤ) (t : ℕ) (made : Option Made) → Accepts s dry_desk seq (Issue part) reading t made → HasMade s made
-has_made s seq part reading t made a = record { one = made_of s t (issued part) a.product.0; is = a.product.3; room = room s t a.product.0 a.product.2 }
 
 -- the entry's minute is that of training
 pub at_minute : (s : State) (at : ℕ) (t : ℕ) → s.last ≤ at → t ≡ minute_of s (pos at) → t ≡ at
@@ -78,7 +49,7 @@ some_text (Some m) one text is told = cc
 pub accepted_core : (s next : State) (at : ℕ) (part : PutPart) (made : Option Made) (text : List ℕ) → Accepts s dry_desk (next_number s) (Issue part) (pos at) at made
     → option_map (λ (m : Made). m.sent.text) made ≡ Some text → next ≡ state_after s (entry_of s dry_desk (next_number s) (Issue part) at made) made → IsAccepted at s part text next
 accepted_core s next at part made text accepts told after =
-    let m = has_made s (next_number s) part (pos at) at made accepts in
+    let m = has_made s dry_desk (next_number s) part (pos at) at made accepts in
     record {
       made = m.one;
       accepted = subst (λ (o : Option Made). Accepts s dry_desk (next_number s) (Issue part) (pos at) at o) m.is accepts;
@@ -123,17 +94,13 @@ trains_if (Ok reply) s' s next d n at r part entry made es ed en er training a i
     let done = answers_new s' s next d n at r part entry made (bytes_of reply) es ed en er training a is told after in
     let a1 : Accepts s d n (Issue part) r entry.minute made = subst (λ (x : State). Accepts x d n (Issue part) r entry.minute made) es a in
     let a2 : Accepts s dry_desk n (Issue part) r entry.minute made = subst (λ (x : List ℕ). Accepts s x n (Issue part) r entry.minute made) ed a1 in
-    let few = (has_made s n part r entry.minute made a2).room in
+    let few = (has_made s dry_desk n part r entry.minute made a2).room in
     let desk : entry.desk ≡ dry_desk = ap (λ (e : Entry). e.desk) is ∙ ed in
     let seq : entry.seq ≡ next_number s = ap (λ (e : Entry). e.seq) is ∙ en in
     let last : last_number next dry_desk ≡ next_number s = subst (λ (x : List ℕ). last_number next x ≡ next_number s) desk (number ∙ seq) in
     goes_on s next at part done.made training few done.after last reads
 trains_if (Err e) s' s next d n at r part entry made es ed en er training a is told after number reads lacked =
     subst (λ (x : State). IsTraining x at) (sym (lacked ∙ es)) training
-
-pub is_some : (made : Option Made) (one : Made) → made ≡ Some one → IsSome made
-is_some None one is = absurd (cc)
-is_some (Some m) one is = refl
 
 -- a line that is too long is refused, and nothing changes
 pub long_line : {E : Type 0} (d : Trained) (line : Option (List ℕ)) (r : Result Reply E) → IsTraining d.state d.at → line ≡ None → IfOk r (λ reply. bytes_of reply ≡ refusal_line LineTooLong) → IfOk r (λ reply. Replies d line (bytes_of reply) d)

@@ -30,12 +30,9 @@ use Rattle.desk_settings.specs.Forms.{is_site, is_office_line, is_heading, is_zo
 use Rattle.desk_settings.specs.Keys.{value_at, text_at, missing_key}
 use Rattle.desk_settings.specs.Reading.{known, office_field, site_field, line_field, zone_field, desks_field, heading_field, headings_field, zones_field, names_of, desk_in, few_desks, desks_in, zone_pairs, in_order, few_zones, zones_in, has_twice, unless_twice, fields_in, if_whole, settings_in, table_of, settings_of}
 use Rattle.desk_settings.specs.AreSettings.{AreSettings}
-use Rattle.desk_settings.proofs.ZoneCodes.{both, code_parts}
-use Rattle.desk_settings.proofs.ZoneOrder.{Pair, leads, and_then_some, map_some}
-
-if_some : {X : Type 0} (t : Bool) (o : Option X) (x : X) → cond t o None ≡ Some x → (t ≡ true) × (o ≡ Some x)
-if_some false o x h = absurd (cc)
-if_some true o x h = (refl, h)
+use Rattle.hazard_types.proofs.Inverting.{both, if_some, and_then_some, map_some}
+use Rattle.desk_settings.proofs.ZoneCodes.{code_parts}
+use Rattle.desk_settings.proofs.ZoneOrder.{Pair, leads}
 
 -- what passed a test
 passed : {X : Type 0} (test : X → Bool) (o : Option X) (x : X) → option_and_then (λ y. cond (test y) (Some y) None) o ≡ Some x → test x ≡ true

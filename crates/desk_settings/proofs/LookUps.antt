@@ -1,19 +1,18 @@
 -- What is looked up in settings.
-use Rattle.std.proofs.Common.{ℕ, zero, suc, ◌≡◌, ◌<◌, ◌≤◌, ◌↔◌, true, false, IsTrue, List, [], ◌∷◌, length, get_or, Option, Some, None, MatchOption, Contains, Ok, Err, refl, ap, sym, subst, ◌∙◌, arith, inl, inr, ⊎_elim, nat_lt}
+use Rattle.std.proofs.Common.{ℕ, zero, suc, ◌≡◌, ◌<◌, ◌↔◌, true, false, IsTrue, List, [], ◌∷◌, length, get_or, Option, Some, None, MatchOption, Contains, Ok, Err, refl, ap, sym, subst, ◌∙◌, arith, inl, inr}
 use Rattle.std.specs.declared.cmp.Ordering.{Ordering}
 use Rattle.std.specs.declared.cmp.Ordering.TheVariants.{Less, Equal, Greater}
-use Rattle.std.specs.Ordering.{is_eq, ordering_index, ordering_reverse}
-use Rattle.std.specs.List.{AllByRecursion, list_any}
+use Rattle.std.specs.Ordering.{is_eq}
+use Rattle.std.specs.List.{list_any}
 use Rattle.std.specs.List.Sorted.{IsStrictlySortedBy, IsBinarySearchResult}
 use Rattle.std.specs.Map.{keys_of}
 use Rattle.std.specs.Str.{bytes_eq}
-use Rattle.std.proofs.lemmas.List.Elements.{All-from_recursion}
 use Rattle.std.proofs.lemmas.Slice.Eq.{bytes_eq-Decides}
 use Rattle.std.proofs.lemmas.Bool.{cases_Bool, false≢true}
 use Rattle.std.specs.Cmp.{tied_itself}
-use Rattle.std.proofs.lemmas.Bool.Decides.{nat_tests}
 use Rattle.hazard_types.specs.Places.{Place, by_place}
 use Rattle.hazard_types.proofs.OrderLaws.{by_place_total, by_place_ties}
+use Rattle.hazard_types.proofs.Sorted.{before, none_ties}
 use Rattle.desk_settings.specs.Looking.{name_for_zone}
 use Rattle.desk_settings.proofs.ZoneOrder.{Pair}
 
@@ -40,46 +39,6 @@ desk_stands d ds = (found_desk d ds, λ c. stands d ds c.0 c.1 c.2)
 
 -- ---- zones
 
--- along an order, what is before comes no later than what is behind
-rises : (x y z : Place) (o : Ordering) → by_place x y ≡ Less → by_place y z ≡ o → ordering_index (by_place x z) ≤ ordering_index o
-rises x y z Less h is = rw (by_place_total.trans x y z h is) (omega arith)
-rises x y z Equal h is =
-    let back : by_place z y ≡ Equal = by_place_total.antisymm z y ∙ ap ordering_reverse is in
-    let turned : by_place y x ≡ Greater = by_place_total.antisymm y x ∙ ap ordering_reverse h in
-    let same : by_place y x ≡ by_place z x = by_place_total.congr y z x is in
-    let first : by_place x z ≡ Less = by_place_total.antisymm x z ∙ ap ordering_reverse (sym same ∙ turned) in
-    rw first (omega arith)
-rises x y z Greater h is = any_least (by_place x z)
-  where
-    any_least : (o : Ordering) → ordering_index o ≤ ordering_index Greater
-    any_least Less = omega arith
-    any_least Equal = omega arith
-    any_least Greater = omega arith
-
-key_read : (pairs : List Pair) (i : ℕ) (d : Pair) → get_or (keys_of pairs) i d.0 ≡ (get_or pairs i d).0
-key_read [] i d = refl
-key_read (p ∷ pairs) zero d = refl
-key_read (p ∷ pairs) (suc i) d = key_read pairs i d
-
-keys_long : (pairs : List Pair) → length (keys_of pairs) ≡ length pairs
-keys_long [] = refl
-keys_long (p ∷ pairs) = ap suc (keys_long pairs)
-
--- the zones before come first
-before : (p : Place) (pairs : List Pair) (j : ℕ) (d : Pair) → AllByRecursion (λ (y : Place). by_place p y ≡ Less) (keys_of pairs) → j < length pairs → by_place p (get_or pairs j d).0 ≡ Less
-before p pairs j d h lt = subst (λ (q : Place). by_place p q ≡ Less) (key_read pairs j d) (All-from_recursion (λ (y : Place). by_place p y ≡ Less) (keys_of pairs) h j d.0 (omega (arith, keys_long pairs)))
-
-same_index : (n : ℕ) → n ≤ n
-same_index n = omega arith
-
-rising : (z : Place) (pairs : List Pair) (i j : ℕ) (d : Pair) → IsStrictlySortedBy by_place (keys_of pairs) → i ≤ j → j < length pairs → ordering_index (by_place (get_or pairs i d).0 z) ≤ ordering_index (by_place (get_or pairs j d).0 z)
-unfolding IsStrictlySortedBy
-rising z [] i j d h le lt = absurd (omega arith)
-rising z (p ∷ pairs) zero zero d h le lt = same_index (ordering_index (by_place p.0 z))
-rising z (p ∷ pairs) zero (suc j) d h le lt = rises p.0 (get_or pairs j d).0 z (by_place (get_or pairs j d).0 z) (before p.0 pairs j d h.0 (omega arith)) refl
-rising z (p ∷ pairs) (suc i) zero d h le lt = absurd (omega arith)
-rising z (p ∷ pairs) (suc i) (suc j) d h le lt = rising z pairs i j d h.1 (omega arith) (omega arith)
-
 -- the first pair that ties stands where a tie stands
 at_tie : (z : Place) (pairs : List Pair) (i : ℕ) (d : Pair) → IsStrictlySortedBy by_place (keys_of pairs) → i < length pairs → by_place (get_or pairs i d).0 z ≡ Equal → name_for_zone pairs z ≡ Some (get_or pairs i d).1
 unfolding IsStrictlySortedBy
@@ -98,16 +57,8 @@ no_tie z (p ∷ pairs) h = rw (h 0 p (omega arith)) (no_tie z pairs (λ k d lt. 
 pub searched : (z : Place) (pairs : List Pair) (i : ℕ) (d : Pair) → IsStrictlySortedBy by_place (keys_of pairs) → i < length pairs → IsBinarySearchResult (λ (p : Pair). by_place p.0 z) pairs (Ok i) → name_for_zone pairs z ≡ Some (get_or pairs i d).1
 searched z pairs i d h lt found = at_tie z pairs i d h lt (found d)
 
-lower : (m n : ℕ) → nat_lt m n ≡ true → m < n
-lower m n h = grind (arith, nat_tests)
-
-no_lower : (m n : ℕ) → nat_lt m n ≡ false → n ≤ m
-no_lower m n h = grind (arith, nat_tests)
-
 pub missed : (z : Place) (pairs : List Pair) (i : ℕ) → IsStrictlySortedBy by_place (keys_of pairs) → IsBinarySearchResult (λ (p : Pair). by_place p.0 z) pairs (Err i) → name_for_zone pairs z ≡ None
-missed z pairs i h parted =
-    let p = parted (λ a b d le lt. rising z pairs a b d h le lt) in
-    no_tie z pairs (λ k d lt. ⊎_elim (λ (low : nat_lt k i ≡ true). ap is_eq (p.0 k d (omega arith) (lower k i low))) (λ (high : nat_lt k i ≡ false). ap is_eq (p.1 k d (no_lower k i high) lt)) (cases_Bool (nat_lt k i)))
+missed z pairs i h parted = no_tie z pairs (none_ties z pairs i h parted)
 
 equal_is : (o : Ordering) → is_eq o ≡ true → o ≡ Equal
 equal_is Less h = absurd (cc)

@@ -11,7 +11,7 @@ use Rattle.desk_settings.specs.declared.settings.Settings.{Settings}
 use Rattle.hazard_types.specs.Characters.{is_name_byte, is_office}
 use Rattle.desk_settings.specs.Forms.{is_site, is_heading, is_zone_name}
 use Rattle.desk_settings.specs.AreSettings.{HasForms, training_of, training_headings}
-use Rattle.desk_settings.proofs.ZoneCodes.{both}
+use Rattle.hazard_types.proofs.Inverting.{both}
 
 same_length : (m n : ℕ) → (m == n) ≡ true → m ≡ n
 same_length m n h = grind (arith, nat_tests)
@@ -28,11 +28,11 @@ site_form (c ∷ cs) h =
     let three : (length cs == 3) ≡ true = length_test (length cs) 3 (omega (arith, same_length (length (c ∷ cs)) 4 t.0)) in
     rw (three, names.1) refl
 
-headings_have_forms : AllByRecursion (λ (h : List ℕ). IsTrue (is_heading h)) training_headings
+pub headings_have_forms : AllByRecursion (λ (h : List ℕ). IsTrue (is_heading h)) training_headings
 unfolding training_headings
 headings_have_forms = (refl, (refl, (refl, (refl, (refl, (refl, (refl, (refl, tt))))))))
 
-eight : length training_headings ≡ 8
+pub eight : length training_headings ≡ 8
 unfolding training_headings
 eight = refl
 

@@ -1,5 +1,5 @@
 -- The order of zones is the order of their codes.
-use Rattle.std.proofs.Common.{ℕ, ◌≡◌, ◌<◌, ◌≤◌, ◌+◌, ◌-◌, ◌*◌, ◌==◌, ◌&&◌, Bool, true, false, cond, List, [], ◌∷◌, length, slice_index, nat_le, nat_lt, Option, Some, None, option_map, refl, ap, sym, subst, ◌∙◌, arith}
+use Rattle.std.proofs.Common.{ℕ, ◌≡◌, ◌<◌, ◌≤◌, ◌+◌, ◌-◌, ◌*◌, ◌==◌, Bool, true, false, cond, List, [], ◌∷◌, length, slice_index, nat_lt, Some, None, option_map, refl, ap, sym, ◌∙◌, arith}
 use Rattle.std.specs.declared.cmp.Ordering.{Ordering}
 use Rattle.std.specs.declared.cmp.Ordering.TheVariants.{Less, Equal, Greater}
 use Rattle.std.specs.Ordering.{nat_cmp, ordering_then, MatchOrdering}
@@ -9,14 +9,11 @@ use Rattle.std.proofs.lemmas.Cmp.{ranked}
 use Rattle.std.proofs.lemmas.Bool.Decides.{nat_tests}
 use Rattle.std.proofs.lemmas.Slice.Eq.{text_from_reads}
 use Rattle.hazard_types.specs.Calendar.{is_digit}
-use Rattle.hazard_types.specs.Places.{Place, IsPlace, is_capital, are_letters, is_number, kind_rank, by_place}
+use Rattle.hazard_types.specs.Places.{Place, IsPlace, is_capital, kind_rank, by_place}
 use Rattle.hazard_types.specs.declared.zone.Kind.{Kind}
 use Rattle.hazard_types.specs.declared.zone.Kind.TheVariants.{C, Z}
 use Rattle.hazard_types.specs.Names.{zone_at, kind_at, three_at}
-
-pub both : (a b : Bool) → (a && b) ≡ true → (a ≡ true) × (b ≡ true)
-both true b h = (refl, h)
-both false b h = (h, cc)
+use Rattle.hazard_types.proofs.Inverting.{map_some, zone_parts, place_with, zone_ok}
 
 abbrev number : ℕ → ℕ → ℕ → ℕ
 number d e f = 100 * (d - 48) + 10 * (e - 48) + (f - 48)
@@ -46,43 +43,11 @@ pub record IsCode (bs : List ℕ) (p : Place) : Type 0 where
   pub number_is : p.number ≡ number (slice_index bs 3) (slice_index bs 4) (slice_index bs 5)
   pub place : IsPlace p
 
-map_some : {X Y : Type 0} (o : Option X) (f : X → Y) (y : Y) → option_map f o ≡ Some y → (x : X) × (o ≡ Some x) × (f x ≡ y)
-map_some None f y h = absurd (cc)
-map_some (Some x) f y h = (x, refl, cc)
-
-if_some : {X : Type 0} (t : Bool) (o : Option X) (x : X) → cond t o None ≡ Some x → (t ≡ true) × (o ≡ Some x)
-if_some false o x h = absurd (cc)
-if_some true o x h = (refl, h)
-
 digit_code : (c : ℕ) → is_digit c ≡ true → IsDigitCode c
 digit_code c h = let low : 48 ≤ c = grind (arith, nat_tests) in let high : c ≤ 57 = grind (arith, nat_tests) in (low, high)
 
 six_is : (n : ℕ) → (n == 6) ≡ true → n ≡ 6
 six_is n h = grind (arith, nat_tests)
-
-above_zero : (n : ℕ) → nat_lt 0 n ≡ true → nat_le 1 n ≡ true
-above_zero n h = grind (arith, nat_tests)
-
-test_le : (a b : ℕ) → a ≤ b → nat_le a b ≡ true
-test_le a b h = grind (arith, nat_tests)
-
-all_two : (a b : Bool) → a ≡ true → b ≡ true → (a && b) ≡ true
-all_two a b p q = rw (p, q) refl
-
-abbrev place_with : List ℕ → Kind → Place
-place_with bytes kind = record { state = slice_index bytes 0 ∷ slice_index bytes 1 ∷ []; kind = kind; number = three_at bytes 3 }
-
-zone_parts : (six cap0 cap1 d3 d4 d5 some : Bool) (o : Option Place) (p : Place) → cond (six && cap0 && cap1 && d3 && d4 && d5 && some) o None ≡ Some p
-    → (six ≡ true) × (cap0 ≡ true) × (cap1 ≡ true) × (d3 ≡ true) × (d4 ≡ true) × (d5 ≡ true) × (some ≡ true) × (o ≡ Some p)
-zone_parts six cap0 cap1 d3 d4 d5 some o p h =
-    let t = if_some (six && cap0 && cap1 && d3 && d4 && d5 && some) o p h in
-    let a = both (six && cap0 && cap1 && d3 && d4 && d5) some t.0 in
-    let b = both (six && cap0 && cap1 && d3 && d4) d5 a.0 in
-    let c = both (six && cap0 && cap1 && d3) d4 b.0 in
-    let d = both (six && cap0 && cap1) d3 c.0 in
-    let e = both (six && cap0) cap1 d.0 in
-    let f = both six cap0 e.0 in
-    (f.0, f.1, e.1, d.1, c.1, b.1, a.1, t.1)
 
 pub six_read : (bs : List ℕ) → length bs ≡ 6 → bs ≡ slice_index bs 0 ∷ slice_index bs 1 ∷ slice_index bs 2 ∷ slice_index bs 3 ∷ slice_index bs 4 ∷ slice_index bs 5 ∷ []
 six_read bs h = text_from_reads bs (slice_index bs 0 ∷ slice_index bs 1 ∷ slice_index bs 2 ∷ slice_index bs 3 ∷ slice_index bs 4 ∷ slice_index bs 5 ∷ []) h (refl, (refl, (refl, (refl, (refl, (refl, tt))))))
@@ -98,9 +63,6 @@ code_parts bs p h =
     let d3 = digit_code (slice_index bs 3) t.3 in
     let d4 = digit_code (slice_index bs 4) t.4 in
     let d5 = digit_code (slice_index bs 5) t.5 in
-    let most : three_at bs 3 ≤ 999 = omega (arith, d3, d4, d5) in
-    let letters : are_letters (slice_index bs 0 ∷ slice_index bs 1 ∷ []) ≡ true = all_two (is_capital (slice_index bs 0)) (is_capital (slice_index bs 1)) t.1 t.2 in
-    let whole : is_number (three_at bs 3) ≡ true = all_two (nat_le 1 (three_at bs 3)) (nat_le (three_at bs 3) 999) (above_zero (three_at bs 3) t.6) (test_le (three_at bs 3) 999 most) in
     record {
       text = six_read bs (six_is (length bs) t.0);
       state = sym (ap (λ (q : Place). q.state) k.2);
@@ -109,7 +71,7 @@ code_parts bs p h =
       tens = d4;
       ones = d5;
       number_is = sym (ap (λ (q : Place). q.number) k.2);
-      place = subst IsPlace k.2 (all_two (are_letters (slice_index bs 0 ∷ slice_index bs 1 ∷ [])) (is_number (three_at bs 3)) letters whole, refl);
+      place = zone_ok bs p h;
     }
 
 regrouped : (o p r : Ordering) → ordering_then o (ordering_then p r) ≡ ordering_then (ordering_then o (ordering_then p Equal)) r

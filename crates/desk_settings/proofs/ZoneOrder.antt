@@ -13,16 +13,9 @@ use Rattle.toml.specs.View.{view, members_view}
 use Rattle.toml.proofs.Views.{Entry}
 use Rattle.hazard_types.specs.Places.{Place, by_place}
 use Rattle.hazard_types.specs.Names.{zone_at}
+use Rattle.hazard_types.proofs.Inverting.{and_then_some, map_some}
 use Rattle.desk_settings.specs.Reading.{zone_pairs, in_order, zone_name_in}
 use Rattle.desk_settings.proofs.ZoneCodes.{code_parts, codes_alike}
-
-pub and_then_some : {X Y : Type 0} (o : Option X) (f : X → Option Y) (y : Y) → option_and_then f o ≡ Some y → (x : X) × (o ≡ Some x) × (f x ≡ Some y)
-and_then_some None f y h = absurd (cc)
-and_then_some (Some x) f y h = (x, refl, h)
-
-pub map_some : {X Y : Type 0} (o : Option X) (f : X → Y) (y : Y) → option_map f o ≡ Some y → (x : X) × (o ≡ Some x) × (f x ≡ y)
-map_some None f y h = absurd (cc)
-map_some (Some x) f y h = (x, refl, cc)
 
 abbrev pub Pair : Type 0
 Pair = Place × List ℕ

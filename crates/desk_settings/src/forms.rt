@@ -77,7 +77,9 @@ pub fn parse_ttaaii(text: &[u8]) -> Option<[u8; 6]>
     }
 }
 
-/// Returns the zone of local times with this name.
+/// Returns the zone of local times with this name, as `Eastern`.
+///
+/// Source: docs/SETTINGS.md, "Settings" (key `zone`).
 pub fn local_zone_in(text: &str) -> Option<LocalZone>
     ensures { result ≡ local_zone_in text.now }
 {

@@ -14,6 +14,7 @@ mod settings;
 mod training;
 
 pub use fault::SettingsFault;
+pub use forms::local_zone_in;
 pub use laws::settings_have_forms;
 pub use read::read_settings;
 pub use settings::Settings;

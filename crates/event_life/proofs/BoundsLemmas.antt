@@ -194,21 +194,20 @@ from_goes_on life line t last r l =
 stays-Decides : (life : Life) (line : Line) (t : ℕ) → Decides (stays life line t) (Stays life line t)
 stays-Decides life line t = same_at-Decides t life.period (continued_period life line t)
 
+-- CON and COR keep the period
+kept_exactly : (life : Life) (line : Line) (t : ℕ) {P : Type 0} → (P ↔ NoneHolds (on_continuing life line t (not (stays life line t), PeriodMoved))) → P ↔ (GoesOnFrom life line t × Stays life line t)
+kept_exactly life line t rows = (
+  λ h. let g = goes_on_from life line t (not (stays life line t), PeriodMoved) (rows.0 h) in (g.0, (stays-Decides life line t).0 (not-false _ g.1)),
+  λ r. rows.1 (from_goes_on life line t (not (stays life line t), PeriodMoved) r.0 (not_from_true _ ((stays-Decides life line t).1 r.1))),
+)
+
 pub con_exactly : (before : Option Life) (line : Line) (t : ℕ) (around : Around) → line.action ≡ Con → IsOk (step before line t around) ↔ IsSomeAnd before (λ life. GoesOnFrom life line t × Stays life line t)
 con_exactly None line t around a = (λ h. let f = ((lawful_on_nothing Con line t around a).0 h).0 in cc, λ r. absurd r)
-con_exactly (Some life) line t around a =
-    let rows = lawful_on_life Con life line t around a in (
-      λ h. let g = goes_on_from life line t (not (stays life line t), PeriodMoved) (rows.0 h) in (g.0, (stays-Decides life line t).0 (not-false _ g.1)),
-      λ r. rows.1 (from_goes_on life line t (not (stays life line t), PeriodMoved) r.0 (not_from_true _ ((stays-Decides life line t).1 r.1))),
-    )
+con_exactly (Some life) line t around a = kept_exactly life line t (lawful_on_life Con life line t around a)
 
 pub cor_exactly : (before : Option Life) (line : Line) (t : ℕ) (around : Around) → line.action ≡ Cor → IsOk (step before line t around) ↔ IsSomeAnd before (λ life. GoesOnFrom life line t × Stays life line t)
 cor_exactly None line t around a = (λ h. let f = ((lawful_on_nothing Cor line t around a).0 h).0 in cc, λ r. absurd r)
-cor_exactly (Some life) line t around a =
-    let rows = lawful_on_life Cor life line t around a in (
-      λ h. let g = goes_on_from life line t (not (stays life line t), PeriodMoved) (rows.0 h) in (g.0, (stays-Decides life line t).0 (not-false _ g.1)),
-      λ r. rows.1 (from_goes_on life line t (not (stays life line t), PeriodMoved) r.0 (not_from_true _ ((stays-Decides life line t).1 r.1))),
-    )
+cor_exactly (Some life) line t around a = kept_exactly life line t (lawful_on_life Cor life line t around a)
 
 pub ext_exactly : (before : Option Life) (line : Line) (t : ℕ) (around : Around) → line.action ≡ Ext → IsOk (step before line t around) ↔ IsSomeAnd before (λ life. GoesOnFrom life line t × (¬ Stays life line t))
 ext_exactly None line t around a = (λ h. let f = ((lawful_on_nothing Ext line t around a).0 h).0 in cc, λ r. absurd r)

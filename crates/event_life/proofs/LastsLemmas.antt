@@ -1,11 +1,11 @@
 -- The last numbers after one event more, and the gap that it makes.
-use Rattle.std.proofs.Common.{◌≡◌, ◌∙◌, ◌==◌, ℕ, zero, suc, ◌+◌, ◌<◌, List, [], ◌∷◌, ◌++◌, Bool, true, false, cond, Ordering, Less, Equal, Greater, Option, Some, unwrap_or, refl, sym, ap, subst, take, drop, drop-cons, length, get_or, append_assoc, arith}
+use Rattle.std.proofs.Common.{◌≡◌, ◌∙◌, ◌==◌, ℕ, zero, suc, ◌+◌, ◌<◌, List, [], ◌∷◌, ◌++◌, Bool, true, false, cond, Ordering, Less, Equal, Greater, Option, Some, unwrap_or, refl, sym, ap, take, drop, drop-cons, length, get_or, append_assoc, arith}
 use Rattle.std.proofs.lemmas.Bool.{and_parts, false_from_ne_true, eqb-true, eq-eqb}
 use Rattle.std.proofs.lemmas.Cmp.{tied_itself, then_total, on_total, nat_cmp_total}
 use Rattle.std.specs.BTreeMap.{insert_entry, is_at}
 use Rattle.std.specs.Cmp.{IsTotalOrder}
 use Rattle.std.specs.Map.{lookup}
-use Rattle.std.specs.Ordering.{match_ordering, is_eq, nat_cmp}
+use Rattle.std.specs.Ordering.{is_eq, nat_cmp}
 use Rattle.hazard_types.specs.Orders.{by_hazard}
 use Rattle.hazard_types.specs.Same.{same_hazard}
 use Rattle.hazard_types.specs.declared.hazard.Event.{Event}
@@ -16,6 +16,7 @@ use Rattle.event_life.specs.declared.openings.Series.{Series}
 use Rattle.event_life.specs.Lasts.{series_of, by_series, gap_in, AreLast}
 use Rattle.event_life.specs.Openings.{is_numbered, wanted_after, gaps_from}
 use Rattle.event_life.proofs.GapsLemmas.{last_of, last_of-push}
+use Rattle.event_life.proofs.Keyed.{found_after}
 use Rattle.event_life.proofs.Keys.{then_parts}
 
 by_series-total : IsTotalOrder by_series
@@ -37,31 +38,15 @@ last_at lasts s = unwrap_or (lookup (is_at (by_series s)) lasts) 0
 at_itself : (s : Series) → is_at (by_series s) s ≡ true
 at_itself s = rw (tied_itself by_series-total s) refl
 
-same_by : (o : Ordering) (s : Series) (e : Series × ℕ) (es : Lasts) (n : ℕ) → by_series s e.0 ≡ o → last_at (insert_entry by_series es s n) s ≡ n →
-    last_at (match_ordering o ((s, n) ∷ e ∷ es) ((e.0, n) ∷ es) (e ∷ insert_entry by_series es s n)) s ≡ n
-same_by Less s e es n h later = rw (at_itself s) refl
-same_by Equal s e es n h later = rw h refl
-same_by Greater s e es n h later = rw h later
+-- what is held for a hazard and year after a number is set for one
+set_last : (q s : Series) (es : Lasts) (n : ℕ) → last_at (insert_entry by_series es s n) q ≡ unwrap_or (cond (is_at (by_series q) s) (Some n) (lookup (is_at (by_series q)) es)) 0
+set_last q s es n = ap (λ (o : Option ℕ). unwrap_or o 0) (found_after by_series by_series-total tied_series q s n es)
 
 at_same : (s : Series) (es : Lasts) (n : ℕ) → last_at (insert_entry by_series es s n) s ≡ n
-at_same s [] n = rw (at_itself s) refl
-at_same s (e ∷ es) n = same_by (by_series s e.0) s e es n refl (at_same s es n)
-
-other_first : (b : Bool) (n : ℕ) (o p : Option ℕ) → unwrap_or o 0 ≡ unwrap_or p 0 → unwrap_or (cond b (Some n) o) 0 ≡ unwrap_or (cond b (Some n) p) 0
-other_first true n o p h = refl
-other_first false n o p h = h
-
-other_by : (o : Ordering) (q s : Series) (e : Series × ℕ) (es : Lasts) (n : ℕ) → by_series s e.0 ≡ o → is_at (by_series q) s ≡ false → last_at (insert_entry by_series es s n) q ≡ last_at es q →
-    last_at (match_ordering o ((s, n) ∷ e ∷ es) ((e.0, n) ∷ es) (e ∷ insert_entry by_series es s n)) q ≡ last_at (e ∷ es) q
-other_by Less q s e es n h f later = rw f refl
-other_by Equal q s e es n h f later =
-    let g : is_at (by_series q) e.0 ≡ false = subst (λ (y : Series). is_at (by_series q) y ≡ false) (tied_series s e.0 h) f in
-    rw g refl
-other_by Greater q s e es n h f later = other_first (is_at (by_series q) e.0) e.1 (lookup (is_at (by_series q)) (insert_entry by_series es s n)) (lookup (is_at (by_series q)) es) later
+at_same s es n = set_last s s es n ∙ rw (at_itself s) refl
 
 at_other : (q s : Series) (es : Lasts) (n : ℕ) → is_at (by_series q) s ≡ false → last_at (insert_entry by_series es s n) q ≡ last_at es q
-at_other q s [] n f = rw f refl
-at_other q s (e ∷ es) n f = other_by (by_series s e.0) q s e es n refl f (at_other q s es n f)
+at_other q s es n f = set_last q s es n ∙ rw f refl
 
 is_eq-tied : (o : Ordering) → is_eq o ≡ true → o ≡ Equal
 is_eq-tied Less h = cc

@@ -173,7 +173,7 @@ all_weaker : (P Q : Event → Type 0) → ((e : Event) → P e → Q e) → (eve
 all_weaker P Q f [] all = tt
 all_weaker P Q f (e ∷ events) all = (f e all.0, all_weaker P Q f events all.1)
 
-all_joined : (P : Event → Type 0) (xs ys : List Event) → AllByRecursion P xs → AllByRecursion P ys → AllByRecursion P (xs ++ ys)
+pub all_joined : {X : Type 0} (P : X → Type 0) (xs ys : List X) → AllByRecursion P xs → AllByRecursion P ys → AllByRecursion P (xs ++ ys)
 all_joined P [] ys all more = more
 all_joined P (x ∷ xs) ys all more = (all.0, all_joined P xs ys all.1 more)
 

@@ -50,11 +50,15 @@ IsLawfulLife products e z = IsLawfulFrom [] products e z
 
 -- The shape of a life.
 
+-- a spell that is not the first opens with EXA or EXB
+abbrev pub rejoins : Action → Bool
+rejoins Exa = true
+rejoins Exb = true
+rejoins _ = false
+
 abbrev pub opens : Action → Bool
 opens New = true
-opens Exa = true
-opens Exb = true
-opens _ = false
+opens a = rejoins a
 
 abbrev pub goes_on : Action → Bool
 goes_on Con = true
@@ -67,12 +71,6 @@ ends Can = true
 ends Exp = true
 ends Upg = true
 ends _ = false
-
--- a spell that is not the first opens with EXA or EXB
-abbrev pub rejoins : Action → Bool
-rejoins Exa = true
-rejoins Exb = true
-rejoins _ = false
 
 -- A spell: what opens it, what it goes on with, and what ends it, if it has ended.
 pub record Spell : Type 0 where

@@ -1,7 +1,7 @@
 -- The events that a list of products opened, and the gaps in their numbers.
 use Rattle.std.specs.Prelude.{◌≡◌, ◌==◌, ◌&&◌, ℕ, suc, zero, ◌+◌, Bool, List, [], ◌∷◌, ◌++◌, fold, map, filter, if◌then◌else◌}
 use Rattle.std.specs.declared.cmp.Ordering.{Ordering}
-use Rattle.std.specs.declared.cmp.Ordering.TheVariants.{Less, Equal, Greater}
+use Rattle.std.specs.Ordering.{match_ordering}
 use Rattle.hazard_types.specs.Orders.{by_event}
 use Rattle.hazard_types.specs.Same.{same_hazard}
 use Rattle.hazard_types.specs.declared.hazard.Event.{Event}
@@ -13,9 +13,7 @@ use Rattle.event_life.specs.Lives.{judged_product}
 use Rattle.event_life.specs.Products.{Product, is_new, lawful_of, rows_with}
 
 abbrev pub event_placed : Ordering → Event → Event → List Event → List Event → List Event
-event_placed Less e first events behind = e ∷ first ∷ events
-event_placed Equal e first events behind = first ∷ events
-event_placed Greater e first events behind = first ∷ behind
+event_placed o e first events behind = match_ordering o (e ∷ first ∷ events) (first ∷ events) (first ∷ behind)
 
 -- into a list in order of events, each once
 abbrev pub add_event : Event → List Event → List Event

@@ -1,19 +1,19 @@
 -- Words of the code that judges products: where a row belongs, and which lines count where a higher row is looked for.
-use Rattle.std.specs.Prelude.{◌&&◌, ◌||◌, not, ℕ, ◌<◌, ◌≤◌, Bool, true, List, length, slice_set, Option, Some, None, Result, Ok, Err, is_none}
+use Rattle.std.specs.Prelude.{◌&&◌, ◌||◌, not, ℕ, ◌<◌, ◌≤◌, Bool, true, List, length, slice_set, Result, Ok, Err, is_none}
 use Rattle.std.specs.List.{insert, list_any}
 use Rattle.hazard_types.specs.declared.line.Line.{Line}
 use Rattle.hazard_types.specs.declared.line.Row.{Row}
 use Rattle.event_life.specs.Products.{is_routine, is_upgrade, concerns, is_second, life_at, around_but_higher}
 use Rattle.event_life.specs.Table.{breach_of_line}
 
--- the rows with the row in the place of another, or before what stands at a place
-abbrev pub seated : Result ℕ ℕ → Row → List Row → List Row
-seated (Ok i) row rows = slice_set rows i row
-seated (Err i) row rows = insert rows i row
+-- the items with one of them in the place of another, or before what stands at a place
+abbrev pub seated : {X : Type 0} → Result ℕ ℕ → X → List X → List X
+seated (Ok i) x xs = slice_set xs i x
+seated (Err i) x xs = insert xs i x
 
-abbrev pub IsSeat : Result ℕ ℕ → List Row → Type 0
-IsSeat (Ok i) rows = i < length rows
-IsSeat (Err i) rows = i ≤ length rows
+abbrev pub IsSeat : {X : Type 0} → Result ℕ ℕ → List X → Type 0
+IsSeat (Ok i) xs = i < length xs
+IsSeat (Err i) xs = i ≤ length xs
 
 -- the line is lawful and no UPG
 abbrev pub may_count : List Row → ℕ → List Line → Line → Bool

@@ -27,8 +27,8 @@ pub use putting::{
     end_upgraded, is_routine, is_upgrade, leaves_row, may_count, put, row_after, row_of, shown,
 };
 pub use rows::{
-    around, event_of, going_in, has_period, has_rows, has_same, is_held, is_open, life_at,
-    opened_period, row_at,
+    around, event_of, going_in, has_period, has_rows, has_same, is_held, is_open, later_event,
+    life_at, opened_period, row_at,
 };
 pub use step_laws::{
     can_comes_before_the_last_half_hour, con_and_cor_keep_the_period, ended_lives_are_opened_anew,

@@ -80,7 +80,7 @@ pub fn has_same(rows: &[Row], t: Minute, line: &Line) -> bool
 }
 
 /// Returns the event of the later year, the first of two of one year.
-fn later_event(best: Option<Event>, event: &Event) -> Option<Event>
+pub fn later_event(best: Option<Event>, event: &Event) -> Option<Event>
     ensures { result ≡ later_event best event.now }
 {
     match best {

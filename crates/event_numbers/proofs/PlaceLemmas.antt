@@ -3,9 +3,9 @@ use Rattle.std.proofs.Common.{◌≡◌, ◌⊎◌, inl, inr, ◌∙◌, ◌==�
 use Rattle.std.specs.List.{AllByRecursion}
 use Rattle.std.specs.List.Sorted.{IsStrictlySortedBy, IsPartitionedBy}
 use Rattle.std.specs.Ordering.{nat_cmp, ordering_then, ordering_reverse}
-use Rattle.std.specs.Cmp.{IsTotalOrder}
+use Rattle.std.specs.Cmp.{IsTotalOrder, Equal-is}
 use Rattle.std.proofs.lemmas.Bool.{cases_lt}
-use Rattle.std.proofs.lemmas.Bool.Decides.{nat_tests}
+use Rattle.std.proofs.lemmas.Bool.Decides.{nat_tests, same_from_decides}
 use Rattle.std.proofs.lemmas.Cmp.{nat_cmp_total, on_total, then_total, tied_itself}
 use Rattle.hazard_types.specs.Orders.{by_hazard}
 use Rattle.hazard_types.specs.Same.{same_hazard}
@@ -25,25 +25,16 @@ is_less Less h = refl
 is_less Equal h = cc
 is_less Greater h = cc
 
-is_tied : (o : Ordering) → is_eq o ≡ true → o ≡ Equal
-is_tied Less h = cc
-is_tied Equal h = refl
-is_tied Greater h = cc
-
 is_greater : (o : Ordering) → is_lt o ≡ false → is_eq o ≡ false → o ≡ Greater
 is_greater Less h g = cc
 is_greater Equal h g = cc
 is_greater Greater h g = refl
 
-alike : (s t : Bool) → (s ≡ true → t ≡ true) → (t ≡ true → s ≡ true) → s ≡ t
-alike true t f g = sym (f refl)
-alike false true f g = g refl
-alike false false f g = refl
-
 hazard_tied : (a b : Hazard) → is_eq (by_hazard a b) ≡ same_hazard a b
-hazard_tied a b = alike _ _
-    (λ h. let same = by_hazard_ties a b (is_tied (by_hazard a b) h) in rw same (hazard_itself b))
-    (λ h. ap is_eq (ap (λ (g : Hazard). by_hazard a g) (sym (hazard_one a b h)) ∙ tied_itself by_hazard_total a))
+hazard_tied a b = same_from_decides _ _ (Equal-is (by_hazard a b)) (
+  λ h. ap (λ (g : Hazard). by_hazard a g) (sym (hazard_one a b h)) ∙ tied_itself by_hazard_total a,
+  λ e. rw (by_hazard_ties a b e) (hazard_itself b),
+)
 
 number_tied : (a b : ℕ) → is_eq (nat_cmp a b) ≡ (a == b)
 number_tied a b = grind (arith, nat_tests)

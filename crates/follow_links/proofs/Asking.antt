@@ -1,5 +1,5 @@
 -- One ask, by what became of it.
-use Rattle.std.proofs.Common.{◌≡◌, ◌∙◌, ◌≤◌, inl, inr, ℕ, Bool, List, [], take, drop, Option, Result, Ok, Err, refl, sym, ap, arith, subst, append-nil}
+use Rattle.std.proofs.Common.{◌≡◌, ◌≢◌, ◌∙◌, ◌≤◌, inl, inr, ℕ, Bool, List, [], take, drop, Option, Result, Ok, Err, refl, sym, ap, arith, subst, append-nil}
 use Rattle.std.proofs.lemmas.List.{take-append-drop}
 use Rattle.desk_links.specs.Links.{LinkState}
 use Rattle.desk_traits.specs.Faults.{Rose}
@@ -15,7 +15,7 @@ use Rattle.follow_links.specs.declared.reading.Miss.TheVariants as miss
 use Rattle.follow_links.specs.declared.talk.LinkEnd.{LinkEnd}
 use Rattle.follow_links.specs.declared.talk.LinkEnd.TheVariants.{Spent, Closed, Failed, Ended, Bad, OutOfMemory}
 use Rattle.follow_links.proofs.Joining.{takes_none, adds_none}
-use Rattle.follow_links.proofs.Sizes.{none_in_nothing}
+use Rattle.http_heads.proofs.Sizes.{none_in_nothing}
 
 nothing_read : (left left' : Option (List ℕ)) → left' ≡ left → Takes left left' []
 nothing_read left left' is = subst (λ (l : Option (List ℕ)). Takes left l []) (sym is) (takes_none left)
@@ -78,23 +78,18 @@ module _ (first middle last : LinkState) (f : Reading) (text : List ℕ) (is : t
   heard bytes new (Err Closed) t h = absurd h
   heard bytes new (Err Failed) t h = absurd h
 
+not_failed : (e x : LinkEnd) → e ≡ x → ◌≡◌ {A = Result Bool LinkEnd} (Err e) (Err Failed) → x ≢ Failed → ⊥
+not_failed e x is h unlike = unlike (let same : e ≡ Failed = cc in sym is ∙ same)
+
+-- of the misses a failed link alone is told as one
+failed_alone : (m : Miss) (e : LinkEnd) → e ≡ end_of m → ◌≡◌ {A = Result Bool LinkEnd} (Err e) (Err Failed) → m ≡ miss.Failed
+failed_alone miss.Failed e is h = refl
+failed_alone miss.Bad e is h = absurd (not_failed e Bad is h (λ k. cc))
+failed_alone miss.OutOfMemory e is h = absurd (not_failed e OutOfMemory is h (λ k. cc))
+
 pub missed_rose : (first middle last : LinkState) (m : Miss) (e : LinkEnd) → e ≡ end_of m → middle.input ≡ first.input → first.output.faults ≤ middle.output.faults → last.output ≡ middle.output
     → IsCause {T = Shape} middle.input.faults last.input.faults (Err m) → RoseIfFailed {T = Bool} first last (Err e)
-missed_rose first middle last miss.Failed e is r w v c = record {
-  rose = λ h. inl (subst (λ (i : Inflow). Rose i.faults last.input.faults) r (c.rose refl));
+missed_rose first middle last m e is r w v c = record {
+  rose = λ h. inl (subst (λ (i : Inflow). Rose i.faults last.input.faults) r (c.rose (ap (λ (x : Miss). Err x) (failed_alone m e is h))));
   later = (omega (arith, ap (λ (i : Inflow). i.faults) r, c.later), omega (arith, w, ap (λ (o : Outflow). o.faults) v));
 }
-missed_rose first middle last miss.Bad e is r w v c = record {
-  rose = λ h. absurd (no_failure e is h);
-  later = (omega (arith, ap (λ (i : Inflow). i.faults) r, c.later), omega (arith, w, ap (λ (o : Outflow). o.faults) v));
-}
-  where
-    no_failure : (x : LinkEnd) → x ≡ Bad → ◌≡◌ {A = Result Bool LinkEnd} (Err x) (Err Failed) → ⊥
-    no_failure x a b = cc
-missed_rose first middle last miss.OutOfMemory e is r w v c = record {
-  rose = λ h. absurd (no_failure e is h);
-  later = (omega (arith, ap (λ (i : Inflow). i.faults) r, c.later), omega (arith, w, ap (λ (o : Outflow). o.faults) v));
-}
-  where
-    no_failure : (x : LinkEnd) → x ≡ OutOfMemory → ◌≡◌ {A = Result Bool LinkEnd} (Err x) (Err Failed) → ⊥
-    no_failure x a b = cc

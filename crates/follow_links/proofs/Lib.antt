@@ -1,4 +1,3 @@
-mod Sizes
 mod Lasts
 mod Joining
 mod Talking

@@ -1,5 +1,5 @@
 -- What is read of an answer, step by step.
-use Rattle.std.proofs.Common.{◌≡◌, ◌∙◌, ◌≤◌, ◌<◌, ◌+◌, ◌-◌, ◌⊎◌, inl, inr, true, ℕ, List, [], ◌∷◌, ◌++◌, length, take, drop, Option, Ok, Err, refl, sym, ap, arith, subst, append-nil, append_assoc, length-append}
+use Rattle.std.proofs.Common.{◌≡◌, ◌∙◌, ◌≤◌, ◌<◌, ◌+◌, ◌-◌, ◌⊎◌, inl, inr, true, ℕ, List, [], ◌∷◌, ◌++◌, length, take, drop, Option, Some, Ok, Err, refl, sym, ap, arith, subst, append-nil, append_assoc, length-append}
 use Rattle.std.proofs.lemmas.List.{take_at, take-append-le, take-append-drop}
 use Rattle.std.proofs.Math.Seq.{take-append-add}
 use Rattle.std.proofs.Math.Decide.{dec_lt}
@@ -133,6 +133,13 @@ module _ (left mid end : Option (List ℕ)) (now new : List ℕ) where
   whole_head none few g s w =
       let reads = all_read w.0 w.1 none g w.2 in
       (w.0, reads, omega (arith, few, g.few, ap length g.behind, length-append now g.piece, ap length reads.1, length-append (print_response w.0) []), w.3)
+
+  -- the byte that decides a head
+  pub bad_byte : IsCutHead now → Gains mid end now new 1 → Says new Bad → ReadsOn mid end now new (Err miss.Bad)
+  bad_byte cut g says = (gains_wide mid end now new 1 (omega arith) g, bad_head cut.0 cut.1 cut.2 g says)
+
+  pub whole_byte : IsCutHead now → Gains mid end now new 1 → (s : Shape) → Says new (Whole s) → ReadsOn mid end now new (Ok (Some s))
+  whole_byte cut g s says = (gains_wide mid end now new 1 (omega arith) g, whole_head cut.0 cut.1 g s says)
 
 pub answer_stops : (left mid end : Option (List ℕ)) (bytes new : List ℕ) (s : Shape) (m : Miss)
     → ReadsHead left mid bytes (Ok s) → ReadsBody mid end bytes new (s.from + s.body) (Err m) → ReadsAnswer left end new (Err m)

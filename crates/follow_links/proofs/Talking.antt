@@ -9,7 +9,7 @@ use Rattle.follow_links.specs.Talks.{IsText, Onward, IsClosed, IsTalk, ask, bodi
 use Rattle.follow_links.specs.declared.talk.LinkEnd.{LinkEnd}
 use Rattle.desk_links.specs.Links.{LinkState}
 use Rattle.byte_streams.specs.Flows.{Takes, Adds}
-use Rattle.follow_links.specs.Rounding.{HasFailed, IsAsk, IsLater, RoseIfFailed, Talks}
+use Rattle.follow_links.specs.Rounding.{HasFailed, Holds, IsAsk, IsLater, RoseIfFailed, Talks}
 use Rattle.follow_links.specs.Talks.{Leaves, asks_in}
 use Rattle.follow_links.specs.declared.talk.LinkEnd.TheVariants.{Spent, Closed, Failed, Ended, Bad, OutOfMemory}
 use Rattle.follow_links.proofs.Placing.{heard_place, after_more}
@@ -71,58 +71,62 @@ place_after place read written (a ∷ answers) end f h is =
 
 -- Texts were taken so far, and the link is open.
 pub record Going (first last : LinkState) (old new : Reading) (rounds rounds' : ℕ) : Type 0 where
-  pub answers : List Answer
-  pub read : List ℕ
-  pub written : List ℕ
-  pub takes : Takes first.input.left last.input.left read
-  pub adds : Adds first.output.taken last.output.taken written
-  pub talk : IsTalk (place_of old) read written answers Spent
-  pub follower : new ≡ after_all old (bodies answers)
-  pub counted : length answers + rounds' ≡ rounds
+  pub held : Holds first last old new rounds rounds' Spent
   pub later : IsLater first last
-  pub same : last.came ≡ first.came
 
 pub going_none : (link : LinkState) (f : Reading) (rounds : ℕ) → Going link link f f rounds rounds
 going_none link f rounds = record {
-  answers = [];
-  read = [];
-  written = [];
-  takes = takes_none link.input.left;
-  adds = adds_none link.output.taken;
-  talk = (refl, refl);
-  follower = refl;
-  counted = omega arith;
+  held = record {
+    answers = [];
+    read = [];
+    written = [];
+    takes = takes_none link.input.left;
+    adds = adds_none link.output.taken;
+    talk = (refl, refl);
+    follower = refl;
+    counted = omega arith;
+    same = refl;
+  };
   later = (omega arith, omega arith);
-  same = refl;
 }
 
-push_body : (old mid : Reading) (answers : List Answer) (a : Answer) → mid ≡ after_all old (bodies answers) → having_taken mid (place_of mid) a.body ≡ after_all old (bodies (answers ++ a ∷ []))
-push_body old mid answers a is =
-    ap (λ (f : Reading). having_taken f (place_of f) a.body) is
-    ∙ (sym (after_more old (bodies answers) (a.body ∷ []))
-    ∙ ap (after_all old) (sym (map-append (λ (b : Answer). b.body) answers (a ∷ []))))
+after_bodies : (old mid : Reading) (xs ys : List Answer) → mid ≡ after_all old (bodies xs) → after_all mid (bodies ys) ≡ after_all old (bodies (xs ++ ys))
+after_bodies old mid xs ys is =
+    ap (λ (f : Reading). after_all f (bodies ys)) is
+    ∙ (sym (after_more old (bodies xs) (bodies ys))
+    ∙ ap (after_all old) (sym (map-append (λ (b : Answer). b.body) xs ys)))
 
 module _ (first middle last : LinkState) (old mid new : Reading) (rounds mid_rounds end_rounds : ℕ) where
-  mid_place : (g : Going first middle old mid rounds mid_rounds) → place_of mid ≡ place_of old + length g.answers
-  mid_place g = ap place_of g.follower ∙ place_after (place_of old) g.read g.written g.answers Spent old g.talk refl
+  mid_place : (h : Holds first middle old mid rounds mid_rounds Spent) → place_of mid ≡ place_of old + length h.answers
+  mid_place h = ap place_of h.follower ∙ place_after (place_of old) h.read h.written h.answers Spent old h.talk refl
+
+  -- texts more or none, and how the link was left behind them
+  held_more : (end : LinkEnd) (answers : List Answer) (read written : List ℕ) → (h : Holds first middle old mid rounds mid_rounds Spent)
+      → Takes middle.input.left last.input.left read → Adds middle.output.taken last.output.taken written
+      → IsTalk (place_of mid) read written answers end → new ≡ after_all mid (bodies answers)
+      → length answers + asks_in end + end_rounds ≡ mid_rounds → last.came ≡ middle.came
+      → Holds first last old new rounds end_rounds end
+  held_more end answers read written h takes adds talk follower counted same = record {
+    answers = h.answers ++ answers;
+    read = h.read ++ read;
+    written = h.written ++ written;
+    takes = takes_more first.input.left middle.input.left last.input.left h.read read h.takes takes;
+    adds = adds_more first.output.taken middle.output.taken last.output.taken h.written written h.adds adds;
+    talk = talk_more (place_of old) (place_of mid) h.read h.written h.answers read written answers end (mid_place h) h.talk talk;
+    follower = follower ∙ after_bodies old mid h.answers answers h.follower;
+    counted = omega (arith, h.counted, counted, length-append h.answers answers);
+    same = same ∙ h.same;
+  }
 
   pub going_text : Going first middle old mid rounds mid_rounds
       → (a : IsAsk middle last mid new (Ok false)) → RoseIfFailed {T = Bool} middle last (Ok false) → last.came ≡ middle.came → end_rounds + 1 ≡ mid_rounds
       → Going first last old new rounds end_rounds
   going_text g a r same one =
       let body = a.gives.1.0 in
-      let answer : Answer = record { status = 200; body = body; closes = false } in
+      let talk = one_open (place_of mid) a.read a.written body a.gives.0 a.gives.1.1 in
       record {
-        answers = g.answers ++ answer ∷ [];
-        read = g.read ++ a.read;
-        written = g.written ++ a.written;
-        takes = takes_more first.input.left middle.input.left last.input.left g.read a.read g.takes a.takes;
-        adds = adds_more first.output.taken middle.output.taken last.output.taken g.written a.written g.adds a.adds;
-        talk = talk_more (place_of old) (place_of mid) g.read g.written g.answers a.read a.written (answer ∷ []) Spent (mid_place g) g.talk (one_open (place_of mid) a.read a.written body a.gives.0 a.gives.1.1);
-        follower = a.gives.1.2 ∙ push_body old mid g.answers answer g.follower;
-        counted = omega (arith, g.counted, one, length-append g.answers (answer ∷ []));
+        held = held_more Spent (record { status = 200; body = body; closes = false } ∷ []) a.read a.written g.held a.takes a.adds talk a.gives.1.2 (omega (arith, one)) same;
         later = (omega (arith, g.later.0, r.later.0), omega (arith, g.later.1, r.later.1));
-        same = same ∙ g.same;
       }
 
   pub going_closed : Going first middle old mid rounds mid_rounds
@@ -130,19 +134,11 @@ module _ (first middle last : LinkState) (old mid new : Reading) (rounds mid_rou
       → Talks first last old new rounds end_rounds Closed
   going_closed g a same one =
       let body = a.gives.1.0 in
-      let answer : Answer = record { status = 200; body = body; closes = true } in
+      let talk = one_closed (place_of mid) a.read a.written body a.gives.0 a.gives.1.1 in
       record {
-        answers = g.answers ++ answer ∷ [];
-        read = g.read ++ a.read;
-        written = g.written ++ a.written;
-        takes = takes_more first.input.left middle.input.left last.input.left g.read a.read g.takes a.takes;
-        adds = adds_more first.output.taken middle.output.taken last.output.taken g.written a.written g.adds a.adds;
-        talk = talk_more (place_of old) (place_of mid) g.read g.written g.answers a.read a.written (answer ∷ []) Closed (mid_place g) g.talk (one_closed (place_of mid) a.read a.written body a.gives.0 a.gives.1.1);
-        follower = a.gives.1.2 ∙ push_body old mid g.answers answer g.follower;
-        counted = omega (arith, g.counted, one, length-append g.answers (answer ∷ []));
+        held = held_more Closed (record { status = 200; body = body; closes = true } ∷ []) a.read a.written g.held a.takes a.adds talk a.gives.1.2 (omega (arith, one)) same;
         spent = λ h. absurd (not_spent h);
         rose = λ h. absurd (not_failed h);
-        same = same ∙ g.same;
       }
     where
       not_spent : Closed ≡ Spent → ⊥
@@ -153,19 +149,7 @@ module _ (first middle last : LinkState) (old mid new : Reading) (rounds mid_rou
 
   pub going_spent : Going first middle old mid rounds mid_rounds → mid_rounds ≡ 0
       → Talks first middle old mid rounds mid_rounds Spent
-  going_spent g none = record {
-    answers = g.answers;
-    read = g.read;
-    written = g.written;
-    takes = g.takes;
-    adds = g.adds;
-    talk = g.talk;
-    follower = g.follower;
-    counted = omega (arith, g.counted);
-    spent = λ h. none;
-    rose = λ h. absurd (open_still h);
-    same = g.same;
-  }
+  going_spent g none = record { held = g.held; spent = λ h. none; rose = λ h. absurd (open_still h) }
     where
       open_still : Spent ≡ Failed → ⊥
       open_still h = cc
@@ -174,17 +158,9 @@ module _ (first middle last : LinkState) (old mid new : Reading) (rounds mid_rou
       → (a : IsAsk middle last mid new (Err end)) → RoseIfFailed {T = Bool} middle last (Err end) → last.came ≡ middle.came → end_rounds + 1 ≡ mid_rounds
       → Talks first last old new rounds end_rounds end
   going_ended end g a r same one = record {
-    answers = g.answers ++ [];
-    read = g.read ++ a.read;
-    written = g.written ++ a.written;
-    takes = takes_more first.input.left middle.input.left last.input.left g.read a.read g.takes a.takes;
-    adds = adds_more first.output.taken middle.output.taken last.output.taken g.written a.written g.adds a.adds;
-    talk = talk_more (place_of old) (place_of mid) g.read g.written g.answers a.read a.written [] end (mid_place g) g.talk a.gives.0;
-    follower = a.gives.1 ∙ (g.follower ∙ ap (λ (list : List Answer). after_all old (bodies list)) (sym (append-nil g.answers)));
-    counted = omega (arith, g.counted, one, ap length (append-nil g.answers), asks_one end a.gives.0 a.gives.2);
+    held = held_more end [] a.read a.written g.held a.takes a.adds a.gives.0 a.gives.1 (omega (arith, one, asks_one end a.gives.0 a.gives.2)) same;
     spent = λ h. absurd (a.gives.2 h);
     rose = λ h. rose_back (r.rose (failed_is h));
-    same = same ∙ g.same;
   }
     where
       asks_one : (e : LinkEnd) → Leaves (place_of mid) a.read a.written e → e ≢ Spent → asks_in e ≡ 1

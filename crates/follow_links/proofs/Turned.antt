@@ -9,9 +9,9 @@ use Rattle.desk_links.specs.Links.{DialerState, IsNew, LinkState, faults_of, wit
 use Rattle.product_decoder.specs.ReaderModel.{Reading}
 use Rattle.follow_core.specs.Hearing.{place_of}
 use Rattle.follow_links.specs.Answers.{Answer}
-use Rattle.follow_links.specs.Rounding.{HasFailed, Talks}
+use Rattle.follow_links.specs.Rounding.{HasFailed, Holds, Talks}
 use Rattle.follow_links.specs.Talks.{IsTalk, bodies, after_all, asks_in, fails_in}
-use Rattle.follow_links.specs.Rounds.{Turn, NotDialed, Talked, rounds_in, fails, texts_in, IsTalkWritten, AreTold, IsGivenUp, IsLast, EndsAs, RoseBy, Courses}
+use Rattle.follow_links.specs.Rounds.{Turn, NotDialed, Talked, rounds_in, fails, texts_in, IsTalkWritten, AreTold, IsGivenUp, IsLast, EndsAs, RoseBy, StopsBehind, Courses, stop_with}
 use Rattle.follow_links.specs.declared.talk.LinkEnd.{LinkEnd}
 use Rattle.follow_links.specs.declared.talk.LinkEnd.TheVariants as link
 use Rattle.follow_links.specs.declared.rounds.Stop.{Stop}
@@ -19,7 +19,7 @@ use Rattle.follow_links.specs.declared.rounds.Stop.TheVariants.{Spent, Ended, Ba
 use Rattle.follow_links.proofs.Joining.{written_alone, rose_none, rose_more}
 use Rattle.follow_links.proofs.Placing.{after_more}
 use Rattle.follow_links.proofs.Talking.{place_after}
-use Rattle.follow_links.proofs.Turning.{rounds_more, fails_more, texts_more, ends_more, up_more, told_more}
+use Rattle.follow_links.proofs.Turning.{rounds_more, fails_more, texts_more, ends_more, up_more, told_more, stops_spent}
 
 -- Each turn so far was given up.
 pub record Turns (first last : DialerState) (old new : Reading) (rounds rounds' : ℕ) : Type 0 where
@@ -70,7 +70,7 @@ link_rose link.OutOfMemory mid new fresh left n rose is = omega (arith, is)
 
 -- what was read and written on a link that was new
 pub told_link : (place : ℕ) (fresh left : LinkState) (old new : Reading) (rounds rounds' : ℕ) (end : LinkEnd)
-    → place ≡ place_of old → IsNew fresh → (t : Talks fresh left old new rounds rounds' end)
+    → place ≡ place_of old → IsNew fresh → (t : Holds fresh left old new rounds rounds' end)
     → IsTalkWritten place left t.answers end
 told_link place fresh left old new rounds rounds' end is n t = record {
   read = t.read;
@@ -169,29 +169,36 @@ module _ (first middle : DialerState) (old mid : Reading) (rounds mid_rounds : �
       place = place_then;
     }
 
-  -- no round is left
-  pub course_spent : mid_rounds ≡ 0 → Courses first middle old mid rounds Spent
-  course_spent none = record {
+  -- no turn more is made
+  course_behind : (stop : Stop) → StopsBehind stop → (stop ≡ Spent → mid_rounds ≡ 0) → Courses first middle old mid rounds stop
+  course_behind stop behind none = record {
     turns = t.turns;
     links = t.links;
     told = t.told;
     returned = t.returned;
-    ends = subst (λ (turns : List Turn). EndsAs turns Spent) (append-nil t.turns) (ends_more t.turns [] Spent t.up tt);
+    ends = subst (λ (turns : List Turn). EndsAs turns stop) (append-nil t.turns) (ends_more t.turns [] stop t.up behind);
     within = omega (arith, t.counted);
-    spent = λ h. omega (arith, t.counted, none);
+    spent = λ h. omega (arith, t.counted, none h);
     rose = t.rose;
     follower = t.follower;
     place = t.place;
   }
 
-ended_unspent : Ended ≡ Spent → ⊥
-ended_unspent h = cc
-
-bad_unspent : Bad ≡ Spent → ⊥
-bad_unspent h = cc
+  -- no round is left
+  pub course_spent : mid_rounds ≡ 0 → Courses first middle old mid rounds Spent
+  course_spent none = course_behind Spent tt (λ h. none)
 
 memory_unspent : OutOfMemory ≡ Spent → ⊥
 memory_unspent h = cc
+
+-- a run goes on behind a link that closed or failed
+pub up_with : (end : LinkEnd) → stop_with end ≡ None → (end ≡ link.Closed) ⊎ (end ≡ link.Failed)
+up_with link.Closed is = inl refl
+up_with link.Failed is = inr refl
+up_with link.Spent is = absurd (let other : ◌≡◌ {A = Option Stop} (Some Spent) None = is in cc)
+up_with link.Ended is = absurd (let other : ◌≡◌ {A = Option Stop} (Some Ended) None = is in cc)
+up_with link.Bad is = absurd (let other : ◌≡◌ {A = Option Stop} (Some Bad) None = is in cc)
+up_with link.OutOfMemory is = absurd (let other : ◌≡◌ {A = Option Stop} (Some OutOfMemory) None = is in cc)
 
 -- a list that was lent whole and came back as long
 pub room_kept : {A : Type 0} (n room : ℕ) (new items : List A) → length new ≡ room → length items ≡ room → n ≡ length items → length (take n (new ++ drop (length new) items)) ≡ room
@@ -206,8 +213,8 @@ module _ (first before dialed last : DialerState) (old mid new : Reading) (round
     (n : IsNew fresh)
     (k : Talks fresh left mid new mid_rounds end_rounds end)
     (put : last ≡ with_count dialed left) where
-  told_on : IsTalkWritten (place_of mid) left k.answers end
-  told_on = told_link (place_of mid) fresh left mid new mid_rounds end_rounds end refl n k
+  told_on : IsTalkWritten (place_of mid) left k.held.answers end
+  told_on = told_link (place_of mid) fresh left mid new mid_rounds end_rounds end refl n k.held
 
   rose_on : RoseBy (fails_in end) before.faults last.faults
   rose_on = link_rose end before.faults last.faults fresh left n k.rose
@@ -216,44 +223,21 @@ module _ (first before dialed last : DialerState) (old mid new : Reading) (round
   kept_on : last.links ≡ with_one before.links left
   kept_on = ap (λ (d : DialerState). d.links) put ∙ ap (λ (b : Option (List LinkState)). with_one b left) same
 
-  up_on : (end ≡ link.Closed) ⊎ (end ≡ link.Failed) → IsGivenUp (Talked k.answers end)
-  up_on (inl is) = subst (λ (e : LinkEnd). IsGivenUp (Talked k.answers e)) (sym is) tt
-  up_on (inr is) = subst (λ (e : LinkEnd). IsGivenUp (Talked k.answers e)) (sym is) tt
+  up_on : (end ≡ link.Closed) ⊎ (end ≡ link.Failed) → IsGivenUp (Talked k.held.answers end)
+  up_on (inl is) = subst (λ (e : LinkEnd). IsGivenUp (Talked k.held.answers e)) (sym is) tt
+  up_on (inr is) = subst (λ (e : LinkEnd). IsGivenUp (Talked k.held.answers e)) (sym is) tt
 
   pub one_round : (end ≡ link.Closed) ⊎ (end ≡ link.Failed) → end_rounds + 1 ≤ mid_rounds
-  one_round is = omega (arith, k.counted, takes_round (place_of mid) k.read k.written k.answers end k.talk (up_on is))
+  one_round is = omega (arith, k.held.counted, takes_round (place_of mid) k.held.read k.held.written k.held.answers end k.held.talk (up_on is))
 
   pub turns_on : (end ≡ link.Closed) ⊎ (end ≡ link.Failed) → Turns first last old new rounds end_rounds
-  turns_on is = turns_talked first before old mid rounds mid_rounds t left k.answers end new last end_rounds told_on kept_on rose_on k.follower k.counted (up_on is)
+  turns_on is = turns_talked first before old mid rounds mid_rounds t left k.held.answers end new last end_rounds told_on kept_on rose_on k.held.follower k.held.counted (up_on is)
 
-  course_on : (e : LinkEnd) (stop : Stop) → end ≡ e → IsLast (Talked k.answers e) stop → (stop ≡ Spent → end ≡ link.Spent) → Courses first last old new rounds stop
-  course_on e stop is ends spent =
-      course_last first before old mid rounds mid_rounds t left k.answers end new last end_rounds told_on kept_on rose_on k.follower k.counted stop
-      (subst (λ (x : LinkEnd). IsLast (Talked k.answers x) stop) (sym is) ends) (λ h. k.spent (spent h))
-
-  pub course_spends : end ≡ link.Spent → Courses first last old new rounds Spent
-  course_spends is = course_on link.Spent Spent is tt (λ h. is)
-
-  pub course_ends : end ≡ link.Ended → Courses first last old new rounds Ended
-  course_ends is = course_on link.Ended Ended is tt (λ h. absurd (ended_unspent h))
-
-  pub course_bad : end ≡ link.Bad → Courses first last old new rounds Bad
-  course_bad is = course_on link.Bad Bad is tt (λ h. absurd (bad_unspent h))
-
-  pub course_memory : end ≡ link.OutOfMemory → Courses first last old new rounds OutOfMemory
-  course_memory is = course_on link.OutOfMemory OutOfMemory is tt (λ h. absurd (memory_unspent h))
+  pub course_on : (stop : Stop) → stop_with end ≡ Some stop → Courses first last old new rounds stop
+  course_on stop is =
+      course_last first before old mid rounds mid_rounds t left k.held.answers end new last end_rounds told_on kept_on rose_on k.held.follower k.held.counted stop
+      is (λ h. k.spent (stops_spent end (is ∙ ap (λ (s : Stop). Some s) h)))
 
 -- memory lacked before the first turn
 pub course_none : (dialer : DialerState) (f : Reading) (rounds : ℕ) → Courses dialer dialer f f rounds OutOfMemory
-course_none dialer f rounds = record {
-  turns = [];
-  links = [];
-  told = tt;
-  returned = none_returned dialer.links;
-  ends = tt;
-  within = omega arith;
-  spent = λ h. absurd (memory_unspent h);
-  rose = rose_none dialer.faults;
-  follower = refl;
-  place = omega arith;
-}
+course_none dialer f rounds = course_behind dialer dialer f f rounds rounds (turns_none dialer f rounds) OutOfMemory tt (λ h. absurd (memory_unspent h))

@@ -1,14 +1,15 @@
 -- Turns of a run, one after another.
-use Rattle.std.proofs.Common.{◌≡◌, ◌∙◌, ◌+◌, ◌≤◌, inl, inr, ℕ, List, [], ◌∷◌, ◌++◌, length, refl, sym, ap, arith, subst, append_assoc, length-append}
+use Rattle.std.proofs.Common.{◌≡◌, ◌∙◌, ◌+◌, ◌≤◌, inl, inr, ℕ, List, [], ◌∷◌, ◌++◌, length, Option, None, Some, refl, sym, ap, arith, subst, append_assoc, length-append}
 use Rattle.std.proofs.lemmas.List.{length-map}
 use Rattle.std.specs.List.{AllByRecursion}
 use Rattle.desk_links.specs.Links.{LinkState}
 use Rattle.follow_links.specs.Answers.{Answer}
 use Rattle.follow_links.specs.Talks.{bodies}
-use Rattle.follow_links.specs.Rounds.{Turn, NotDialed, Talked, rounds_of, rounds_in, fails_of, fails, texts_of, texts_in, AreTold, IsGivenUp, IsLast, EndsAs}
+use Rattle.follow_links.specs.Rounds.{Turn, NotDialed, Talked, rounds_of, rounds_in, fails_of, fails, texts_of, texts_in, AreTold, IsGivenUp, IsLast, EndsAs, stop_with}
+use Rattle.follow_links.specs.declared.talk.LinkEnd.{LinkEnd}
 use Rattle.follow_links.specs.declared.talk.LinkEnd.TheVariants as link
 use Rattle.follow_links.specs.declared.rounds.Stop.{Stop}
-use Rattle.follow_links.specs.declared.rounds.Stop.TheVariants.{Spent}
+use Rattle.follow_links.specs.declared.rounds.Stop.TheVariants.{Spent, Ended, Bad, OutOfMemory}
 
 pub rounds_more : (xs ys : List Turn) → rounds_in (xs ++ ys) ≡ rounds_in xs + rounds_in ys
 rounds_more [] ys = omega arith
@@ -51,14 +52,20 @@ up_spends (Talked answers link.Ended) up = absurd up
 up_spends (Talked answers link.Bad) up = absurd up
 up_spends (Talked answers link.OutOfMemory) up = absurd up
 
+-- a run spends its rounds on a link that asked no more
+pub stops_spent : (end : LinkEnd) → stop_with end ≡ Some Spent → end ≡ link.Spent
+stops_spent link.Spent is = refl
+stops_spent link.Closed is = absurd (let other : ◌≡◌ {A = Option Stop} None (Some Spent) = is in cc)
+stops_spent link.Failed is = absurd (let other : ◌≡◌ {A = Option Stop} None (Some Spent) = is in cc)
+stops_spent link.Ended is = absurd (let other : ◌≡◌ {A = Option Stop} (Some Ended) (Some Spent) = is in cc)
+stops_spent link.Bad is = absurd (let other : ◌≡◌ {A = Option Stop} (Some Bad) (Some Spent) = is in cc)
+stops_spent link.OutOfMemory is = absurd (let other : ◌≡◌ {A = Option Stop} (Some OutOfMemory) (Some Spent) = is in cc)
+
 last_spends : (turn : Turn) → IsLast turn Spent → rounds_of turn ≤ length (texts_of turn) + fails_of turn
 last_spends NotDialed last = absurd last
-last_spends (Talked answers link.Spent) last = omega (arith, length-map answers (λ (a : Answer). a.body))
-last_spends (Talked answers link.Closed) last = absurd last
-last_spends (Talked answers link.Failed) last = absurd last
-last_spends (Talked answers link.Ended) last = absurd last
-last_spends (Talked answers link.Bad) last = absurd last
-last_spends (Talked answers link.OutOfMemory) last = absurd last
+last_spends (Talked answers end) last =
+    subst (λ (e : LinkEnd). rounds_of (Talked answers e) ≤ length (texts_of (Talked answers e)) + fails_of (Talked answers e)) (sym (stops_spent end last))
+    (omega (arith, length-map answers (λ (a : Answer). a.body)))
 
 -- rounds are spent by texts and by faults
 pub spends : (turns : List Turn) → EndsAs turns Spent → rounds_in turns ≤ length (texts_in turns) + fails turns

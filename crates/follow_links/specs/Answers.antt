@@ -1,30 +1,13 @@
 -- The answers of a server, by httparse's grammar of heads and Content-Length.
-use Rattle.std.specs.Prelude.{◌≡◌, ◌≤◌, ◌<◌, ◌⊎◌, ℕ, ◌==◌, ◌||◌, ◌&&◌, Bool, true, false, List, [], ◌∷◌, ◌++◌, length, map, codes, Option, Some, None, if◌then◌else◌}
-use Rattle.std.specs.Char.{to_ascii_lowercase}
-use Rattle.std.specs.List.{list_any}
-use Rattle.std.specs.Str.{bytes_eq}
+use Rattle.std.specs.Prelude.{◌≡◌, ◌≤◌, ◌<◌, ◌⊎◌, ℕ, ◌==◌, ◌||◌, Bool, true, false, List, [], ◌∷◌, ◌++◌, length, map, codes, Option, Some, None, if◌then◌else◌}
 use Rattle.httparse.specs.Grammar.{ResponseHead, print_response, ReadsResponse, HasNoResponse, NeverHasResponse, MayBecomeResponse, status_code}
 use Rattle.httparse.specs.Spans.{name_and_value}
 use Rattle.program_ends.specs.Numbers.{number_in}
-
--- a field's name, and its value without the blanks round it
-abbrev pub Pair : Type 0
-Pair = List ℕ × List ℕ
+use Rattle.http_heads.specs.Fields.{Pair, has_close, has_field, is_named}
 
 -- the fields of a head
 abbrev pub fields_of : ResponseHead → List Pair
 fields_of h = map name_and_value h.fields
-
--- the same letters, without regard to case
-abbrev pub same_letters : List ℕ → List ℕ → Bool
-same_letters a b = bytes_eq (map to_ascii_lowercase a) (map to_ascii_lowercase b)
-
-abbrev pub is_named : List ℕ → Pair → Bool
-is_named name pair = same_letters pair.0 name
-
--- a field of this name is there
-abbrev pub has_field : List ℕ → List Pair → Bool
-has_field name pairs = list_any (is_named name) pairs
 
 -- the bytes of the body: the number of the one Content-Length, where it is at most 65,536
 abbrev pub length_in : List Pair → Option ℕ
@@ -33,13 +16,6 @@ length_in (pair ∷ pairs) =
     if is_named (codes "content-length") pair
     then (if has_field (codes "content-length") pairs then None else number_in 65536 pair.1)
     else length_in pairs
-
--- a field Connection with the value `close`
-abbrev pub asks_to_close : Pair → Bool
-asks_to_close pair = is_named (codes "connection") pair && same_letters pair.1 (codes "close")
-
-abbrev pub closes : List Pair → Bool
-closes pairs = list_any asks_to_close pairs
 
 -- a text, or that there is none
 abbrev pub is_known : ℕ → Bool
@@ -59,7 +35,7 @@ pub record IsAnswer (bytes : List ℕ) (a : Answer) : Type 0 where
   pub length_is : length_in (fields_of head) ≡ Some (length a.body)
   pub status_is : status_code head ≡ a.status
   pub known : is_known a.status ≡ true
-  pub closes_is : closes (fields_of head) ≡ a.closes
+  pub closes_is : has_close (fields_of head) ≡ a.closes
 
 -- the length is missing, repeated, no decimal number or above 65,536, or the status is another
 abbrev pub IsBadlyHeaded : ResponseHead → Type 0

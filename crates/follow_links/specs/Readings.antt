@@ -3,7 +3,8 @@ use Rattle.std.specs.Prelude.{◌≡◌, ◌≤◌, ◌<◌, ◌⊎◌, ◌++◌
 use Rattle.desk_traits.specs.Faults.{Rose}
 use Rattle.byte_streams.specs.Flows.{Takes}
 use Rattle.httparse.specs.Grammar.{ResponseHead, print_response, ReadsResponse, HasNoResponse, NeverHasResponse, MayBecomeResponse, status_code}
-use Rattle.follow_links.specs.Answers.{fields_of, length_in, is_known, closes, IsBadlyHeaded, HasBadHead, IsFront, IsAnswer}
+use Rattle.http_heads.specs.Fields.{has_close}
+use Rattle.follow_links.specs.Answers.{fields_of, length_in, is_known, IsBadlyHeaded, HasBadHead, IsFront, IsAnswer}
 use Rattle.follow_links.specs.declared.answers.Head.{Head}
 use Rattle.follow_links.specs.declared.answers.Head.TheVariants.{More, Bad, Whole}
 use Rattle.follow_links.specs.declared.answers.Shape.{Shape}
@@ -16,7 +17,7 @@ pub record HasShape (h : ResponseHead) (s : Shape) : Type 0 where
   pub body : length_in (fields_of h) ≡ Some s.body
   pub status : status_code h ≡ s.status
   pub known : is_known s.status ≡ true
-  pub closes_is : closes (fields_of h) ≡ s.closes
+  pub closes_is : has_close (fields_of h) ≡ s.closes
 
 -- the cause of an answer to the head at the front of the bytes
 abbrev pub Says : List ℕ → Head → Type 0

@@ -50,8 +50,8 @@ pub record RoseIfFailed {T : Type 0} (first last : LinkState) (result : Result T
   pub rose : IsErrOf result Failed → HasFailed first last
   pub later : IsLater first last
 
--- texts were taken on a link until it was left, and each ask took a round; the count of a link that failed rose
-pub record Talks (first last : LinkState) (old new : Reading) (rounds rounds' : ℕ) (end : LinkEnd) : Type 0 where
+-- texts were taken on a link, which was left so or is still open, and each ask took a round
+pub record Holds (first last : LinkState) (old new : Reading) (rounds rounds' : ℕ) (end : LinkEnd) : Type 0 where
   pub answers : List Answer
   pub read : List ℕ
   pub written : List ℕ
@@ -60,6 +60,10 @@ pub record Talks (first last : LinkState) (old new : Reading) (rounds rounds' : 
   pub talk : IsTalk (place_of old) read written answers end
   pub follower : new ≡ after_all old (bodies answers)
   pub counted : length answers + asks_in end + rounds' ≡ rounds
+  pub same : last.came ≡ first.came
+
+-- texts were taken on a link until it was left; the count of a link that failed rose
+pub record Talks (first last : LinkState) (old new : Reading) (rounds rounds' : ℕ) (end : LinkEnd) : Type 0 where
+  pub held : Holds first last old new rounds rounds' end
   pub spent : end ≡ Spent → rounds' ≡ 0
   pub rose : end ≡ Failed → HasFailed first last
-  pub same : last.came ≡ first.came

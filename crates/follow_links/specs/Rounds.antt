@@ -72,13 +72,19 @@ IsGivenUp (Talked answers link.Closed) = Unit {0}
 IsGivenUp (Talked answers link.Failed) = Unit {0}
 IsGivenUp (Talked answers _) = ⊥
 
+-- why a run stops with a link that was left so, where it does
+abbrev pub stop_with : LinkEnd → Option Stop
+stop_with link.Closed = None
+stop_with link.Failed = None
+stop_with link.Spent = Some Spent
+stop_with link.Ended = Some Ended
+stop_with link.Bad = Some Bad
+stop_with link.OutOfMemory = Some OutOfMemory
+
 -- a turn with which a run stops
 abbrev pub IsLast : Turn → Stop → Type 0
-IsLast (Talked answers link.Spent) Spent = Unit {0}
-IsLast (Talked answers link.Ended) Ended = Unit {0}
-IsLast (Talked answers link.Bad) Bad = Unit {0}
-IsLast (Talked answers link.OutOfMemory) OutOfMemory = Unit {0}
-IsLast _ _ = ⊥
+IsLast NotDialed stop = ⊥
+IsLast (Talked answers end) stop = stop_with end ≡ Some stop
 
 -- why no further turn was made: none is left, or memory lacked before the first
 abbrev pub StopsBehind : Stop → Type 0

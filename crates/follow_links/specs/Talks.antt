@@ -69,10 +69,7 @@ after_all f (text ∷ texts) = after_all (having_taken f (place_of f) text) text
 abbrev pub asks_in : LinkEnd → ℕ
 asks_in Spent = 0
 asks_in Closed = 0
-asks_in Failed = 1
-asks_in Ended = 1
-asks_in Bad = 1
-asks_in OutOfMemory = 1
+asks_in _ = 1
 
 -- a link failed
 abbrev pub fails_in : LinkEnd → ℕ

@@ -3,7 +3,8 @@ ghost use Rattle.std.specs.Prelude.{◌≡◌, ◌≤◌, length};
 ghost use Rattle.httparse.specs.Spans.{IsResponseOf, IsResponseWithin};
 ghost use Rattle.follow_links.specs.Readings.{Says};
 
-use crate::fields::{closes, length_in};
+use crate::fields::length_in;
+use http_heads::has_close;
 use httparse::spans::{HeaderSpan, ResponseSpans, parse_response};
 use httparse::{Error, Status};
 
@@ -50,7 +51,8 @@ fn shape_of(bytes: &[u8], fields: &[HeaderSpan], spans: &ResponseSpans) -> Head
             from: spans.len,
             body: body as u32,
             status: spans.code,
-            closes: closes(bytes, fields),
+            // One of the fields is `Connection: close` (docs/DECISIONS.md, "Following").
+            closes: has_close(bytes, fields),
         }),
         None => Head::Bad,
     }

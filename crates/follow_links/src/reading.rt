@@ -27,16 +27,6 @@ pub enum Miss {
     OutOfMemory,
 }
 
-impl From<Oom> for Miss {
-    ghost use Rattle.follow_links.specs.declared.reading.Miss.TheVariants.{OutOfMemory};
-
-    ghost from_gives = { λ _ m. m ≡ OutOfMemory };
-
-    fn from(_: Oom) -> Self {
-        Miss::OutOfMemory
-    }
-}
-
 /// Reads at least one and at most `room` bytes into the start of the buffer.
 fn read_up_to<L: Peer>(link: &mut L, buffer: &mut [u8], room: usize) -> Result<usize, Failed>
     requires some { 1 ≤ room }
@@ -75,9 +65,11 @@ fn read_more<L: Peer>(
     ensures beside { KeepsOutput (L.state link.old) (L.state link.new) }
 {
     let room = most.min(buffer.len());
-    match read_up_to(link, buffer, room) {
-        Ok(count) => bytes.extend(&buffer[..count])?,
-        Err(Failed) => return Err(Miss::Failed),
+    let Ok(count) = read_up_to(link, buffer, room) else {
+        return Err(Miss::Failed);
+    };
+    if bytes.extend(&buffer[..count]).is_err() {
+        return Err(Miss::OutOfMemory);
     }
     Ok(())
 }
@@ -148,7 +140,10 @@ fn read_on<L: Peer>(
     if count == 0 || *alone {
         return read_byte(link, fields, buffer, bytes);
     }
-    match look_ahead(bytes, &waiting[..count], fields)? {
+    let Ok(ahead) = look_ahead(bytes, &waiting[..count], fields) else {
+        return Err(Miss::OutOfMemory);
+    };
+    match ahead {
         Head::More => match read_more(link, buffer, bytes, count) {
             Ok(()) => Ok(None),
             Err(miss) => Err(miss),

@@ -1,6 +1,6 @@
 //! Rounds of questions, over one link after another.
 ghost use Rattle.std.specs.Prelude.{◌≡◌, ◌<◌, ◌+◌, ◌^◌};
-ghost use Rattle.follow_links.specs.Rounds.{Courses};
+ghost use Rattle.follow_links.specs.Rounds.{Courses, stop_with};
 
 use crate::answers::ROOM;
 use crate::talk::{LinkEnd, talk};
@@ -20,6 +20,19 @@ pub enum Stop {
     /// An answer is bad.
     Bad,
     OutOfMemory,
+}
+
+// Why a run stops with a link that was left so, or `None` if it goes on.
+fn stop_with(end: LinkEnd) -> Option<Stop>
+    ensures { result ≡ stop_with end }
+{
+    match end {
+        LinkEnd::Closed | LinkEnd::Failed => None,
+        LinkEnd::Spent => Some(Stop::Spent),
+        LinkEnd::Ended => Some(Stop::Ended),
+        LinkEnd::Bad => Some(Stop::Bad),
+        LinkEnd::OutOfMemory => Some(Stop::OutOfMemory),
+    }
 }
 
 /// Asks for the products after those that the follower has, in at most `rounds` rounds. A round is
@@ -48,12 +61,9 @@ pub fn follow_rounds<D: Dialer>(
             Ok(mut link) => {
                 let end = talk(alloc, &mut link, follower, fields.as_mut_slice(), &mut left);
                 dialer.return_link(link);
-                match end {
-                    LinkEnd::Closed | LinkEnd::Failed => {}
-                    LinkEnd::Spent => return Stop::Spent,
-                    LinkEnd::Ended => return Stop::Ended,
-                    LinkEnd::Bad => return Stop::Bad,
-                    LinkEnd::OutOfMemory => return Stop::OutOfMemory,
+                match stop_with(end) {
+                    None => {}
+                    Some(stop) => return stop,
                 }
             }
         }

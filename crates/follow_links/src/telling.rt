@@ -6,6 +6,7 @@ ghost use Rattle.event_life.specs.Shown.{shown_at};
 ghost use Rattle.follow_core.specs.Hearing.{place_of};
 ghost use Rattle.follow_links.specs.Telling.{IsToldAs, bad_line, report, place_line, shown_front};
 
+use crate::asks::with_number;
 use board_text::put_board;
 use byte_streams::{Sink, write_whole};
 use follow_core::Follower;
@@ -39,11 +40,7 @@ pub fn tell<K: Sink>(output: &mut K, text: &[u8], status: u8) -> u8
 pub fn bad_line(alloc: Global, place: u32) -> Result<Text, Oom>
     ensures { IfOk result (λ text. text ≡ bad_line place) }
 {
-    let mut text = Text::new(alloc);
-    text.extend(b"fault BadAnswer ")?;
-    put_number(alloc, &mut text, place as usize)?;
-    text.push(b'\n')?;
-    Ok(text)
+    with_number(alloc, b"fault BadAnswer ", place, b"\n")
 }
 
 /// Adds the line `place PLACE`.

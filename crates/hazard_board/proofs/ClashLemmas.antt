@@ -1,5 +1,5 @@
 -- Clashes of rows in order stand in order, and the first of them is the least.
-use Rattle.std.proofs.Common.{◌≡◌, ◌∙◌, ◌&&◌, not, ℕ, List, [], ◌∷◌, ◌++◌, Bool, true, false, Option, Ordering, Less, Equal, Greater, refl, sym, ap, map, filter, find, option_map}
+use Rattle.std.proofs.Common.{◌≡◌, ◌∙◌, ◌&&◌, not, ℕ, List, [], ◌∷◌, ◌++◌, Bool, true, false, Option, Ordering, Less, Equal, Greater, refl, sym, ap, subst, map, filter, find, option_map, Result, IfOk}
 use Rattle.std.specs.List.{AllByRecursion}
 use Rattle.std.specs.List.Sorted.{IsStrictlySortedBy}
 use Rattle.std.specs.Option.{option_or}
@@ -10,12 +10,16 @@ use Rattle.hazard_types.specs.Orders.{by_event}
 use Rattle.hazard_types.specs.Places.{Place, by_place}
 use Rattle.hazard_types.specs.Same.{same_zone, same_event}
 use Rattle.hazard_types.specs.declared.line.Clash.{Clash}
+use Rattle.hazard_types.specs.declared.line.Line.{Line}
 use Rattle.hazard_types.specs.declared.line.Row.{Row}
 use Rattle.event_life.specs.Periods.{is_live, overlaps}
 use Rattle.event_life.specs.Products.{by_key}
+use Rattle.event_life.proofs.OnceLemmas.{all_joined}
 use Rattle.hazard_types.proofs.Equality.{zone_one}
 use Rattle.hazard_types.proofs.OrderLaws.{by_place_total, by_event_total}
-use Rattle.hazard_board.specs.Clashes.{clash, clash_of, clashes, first_in, first_clash, least_clash, by_clash}
+use Rattle.hazard_board.specs.Clashes.{clash, clash_of, clashes, first_in, first_clash, least_clash, by_clash, least_after, clashes_after}
+use Rattle.hazard_board.specs.Taken.{rows_taken}
+use Rattle.hazard_board.proofs.Turns.{rows_taken-sorted}
 
 first_step : (b : Bool) (f : Row → Clash) (p : Row → Bool) (r : Row) (rows : List Row) (more : List Clash) → p r ≡ b →
     first_in (map f (filter p rows) ++ more) ≡ option_or (option_map f (find p rows)) (first_in more) →
@@ -42,10 +46,6 @@ then_less Equal Less r h = refl
 then_less Equal Equal r h = cc
 then_less Equal Greater r h = cc
 then_less Greater q r h = cc
-
-all_joined : (Q : Clash → Type 0) (xs ys : List Clash) → AllByRecursion Q xs → AllByRecursion Q ys → AllByRecursion Q (xs ++ ys)
-all_joined Q [] ys all more = more
-all_joined Q (x ∷ xs) ys all more = (all.0, all_joined Q xs ys all.1 more)
 
 all_step : (b : Bool) (P : Row → Type 0) (Q : Clash → Type 0) (f : Row → Clash) (p : Row → Bool) (r : Row) (rows : List Row) → p r ≡ b → (b ≡ true → Q (f r)) → AllByRecursion Q (map f (filter p rows)) → AllByRecursion Q (map f (filter p (r ∷ rows)))
 all_step true P Q f p r rows e own rest = rw e (own refl, rest)
@@ -104,3 +104,14 @@ clashes_sorted t [] up = tt
 clashes_sorted t (row ∷ rows) up =
     sorted_joined (map (clash_of row) (filter (clash t row) rows)) (clashes t rows) (own_sorted t row rows up.1) (clashes_sorted t rows up.1)
     (all_kept (λ y. by_key row y ≡ Less) (λ x. AllByRecursion (λ y. by_clash x y ≡ Less) (clashes t rows)) (clash_of row) (clash t row) rows up.0 (λ b less g. later_above t row b rows up.0))
+
+-- after lines, of rows that are those on a board
+
+pub least_taken : {E : Type 0} (t : ℕ) (inside rows : List Row) (slice lines : List Line) (r : Result (Option Clash) E) → inside ≡ rows → slice ≡ lines → IfOk r (λ found. found ≡ first_clash t (rows_taken inside t slice)) → IfOk r (λ found. found ≡ least_after rows t lines)
+least_taken t inside rows slice lines r is are found =
+    let after : rows_taken inside t slice ≡ rows_taken rows t lines = ap (λ (some : List Row). rows_taken some t slice) is ∙ ap (λ (all : List Line). rows_taken rows t all) are in
+    subst (λ (clash : Option Clash). IfOk r (λ found. found ≡ clash)) (ap (first_clash t) after ∙ first_is_least t (rows_taken rows t lines)) found
+
+pub taken_in_order : (t : ℕ) (inside rows : List Row) (lines : List Line) → inside ≡ rows → IsStrictlySortedBy by_key inside → IsStrictlySortedBy by_clash (clashes_after rows t lines)
+taken_in_order t inside rows lines is up =
+    subst (λ (some : List Row). IsStrictlySortedBy by_clash (clashes_after some t lines)) is (clashes_sorted t (rows_taken inside t lines) (rows_taken-sorted inside t lines up))

@@ -17,6 +17,7 @@ use Rattle.event_life.proofs.LivesLemmas.{find-passes}
 use Rattle.event_life.proofs.Puts.{at_key, at_key-parts}
 use Rattle.hazard_board.specs.Spots.{by_year, by_spot, is_spot, has_spot, spots_of, first_found, rows_on, rows_of_event, first_of, has_same, has_same_if, AreSpots}
 use Rattle.hazard_board.specs.declared.spots.Spot.{Spot}
+use Rattle.hazard_board.proofs.Runs.{all_that_pass}
 use Rattle.hazard_board.proofs.SpotLemmas.{by_year_total, spot_parts, has_cons}
 
 -- a search among those that pass a test
@@ -34,14 +35,7 @@ find_kept p q c h (x ∷ xs) = find_step p q (p x) (q x) c x xs refl refl (h x) 
 -- spots of one event
 
 all_kept : (e : Event) (spots : List Spot) → AllByRecursion (λ (s : Spot). s.event ≡ e) (spots_of e spots)
-all_kept e [] = tt
-all_kept e (s ∷ spots) =
-    let step : (b : Bool) → same_event s.event e ≡ b → AllByRecursion (λ (s : Spot). s.event ≡ e) (cond b (s ∷ spots_of e spots) (spots_of e spots)) =
-    λ b. elim b as (λ b. same_event s.event e ≡ b → AllByRecursion (λ (s : Spot). s.event ≡ e) (cond b (s ∷ spots_of e spots) (spots_of e spots))) [
-      | true ↦ λ own. (event_one s.event e own, all_kept e spots)
-      | false ↦ λ own. all_kept e spots
-    ] in
-    step (same_event s.event e) refl
+all_kept e spots = all_that_pass (λ (s : Spot). s.event ≡ e) (λ (s : Spot). same_event s.event e) (λ s own. event_one s.event e own) spots
 
 found_key : (rows : List Row) (s : Spot) (r : Row) → row_at rows s.event s.zone ≡ Some r → (r.event ≡ s.event) × (r.zone ≡ s.zone)
 found_key rows s r found = at_key-parts s.event s.zone r (find-passes (at_key s.event s.zone) rows r found)

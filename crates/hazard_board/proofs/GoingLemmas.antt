@@ -2,6 +2,7 @@
 use Rattle.std.proofs.Common.{◌≡◌, ◌⊎◌, inl, inr, ◌∙◌, ◌==◌, ◌&&◌, ◌||◌, ℕ, ◌≤◌, List, [], ◌∷◌, Bool, true, false, Option, Some, None, Less, Equal, refl, sym, ap, subst, cond, fold, filter, map, nat_lt, if◌then◌else◌, arith}
 use Rattle.std.specs.List.{AllByRecursion, list_any}
 use Rattle.std.specs.List.Sorted.{IsStrictlySortedBy}
+use Rattle.std.proofs.Math.Bool.{and-false, and-true}
 use Rattle.std.proofs.lemmas.Bool.{and_parts, false_from_ne_true, eqb-true, ltb-false, ltb-true}
 use Rattle.std.proofs.lemmas.Bool.Decides.{nat_tests}
 use Rattle.std.proofs.lemmas.Cmp.{tied_itself}
@@ -199,14 +200,6 @@ module _ (h : Hazard) (n : ℕ) (es fs : List Event) (alike : (e : Event) → ho
 
 -- the events of those that pass
 
-and_false : (b : Bool) → (b && false) ≡ false
-and_false true = refl
-and_false false = refl
-
-and_true : (b : Bool) → (b && true) ≡ b
-and_true true = refl
-and_true false = refl
-
 and_three : (a b c : Bool) → (a && (b && c)) ≡ ((a && b) && c)
 and_three true b c = refl
 and_three false b c = refl
@@ -235,15 +228,15 @@ module _ {X : Type 0} (f : X → Event) where
   has_number h n e = same_hazard e.hazard h && (e.etn == n)
 
   number_step : (h : Hazard) (n : ℕ) (d e : Event) (k b : Bool) → same_event d e ≡ b → ((has_number h n d && k) && same_event d e) ≡ (has_number h n e && (same_event d e && k))
-  number_step h n d e k true is = rw is (and_true (has_number h n d && k) ∙ ap (λ (c : Event). has_number h n c && k) (event_one d e is))
-  number_step h n d e k false is = rw is (and_false (has_number h n d && k) ∙ sym (and_false (has_number h n e)))
+  number_step h n d e k true is = rw is (and-true (has_number h n d && k) ∙ ap (λ (c : Event). has_number h n c && k) (event_one d e is))
+  number_step h n d e k false is = rw is (and-false (has_number h n d && k) ∙ sym (and-false (has_number h n e)))
 
   or_inside : (c a b : Bool) → ((c && a) || (c && b)) ≡ (c && (a || b))
   or_inside true a b = refl
   or_inside false a b = refl
 
   held_by_number : (h : Hazard) (n : ℕ) (k : X → Bool) (e : Event) (xs : List X) → list_any (λ x. (has_number h n (f x) && k x) && same_event (f x) e) xs ≡ (has_number h n e && list_any (λ x. same_event (f x) e && k x) xs)
-  held_by_number h n k e [] = sym (and_false (has_number h n e))
+  held_by_number h n k e [] = sym (and-false (has_number h n e))
   held_by_number h n k e (x ∷ xs) =
       ap (λ (b : Bool). b || list_any (λ x. (has_number h n (f x) && k x) && same_event (f x) e) xs) (number_step h n (f x) e (k x) (same_event (f x) e) refl)
       ∙ ap (λ (b : Bool). (has_number h n e && (same_event (f x) e && k x)) || b) (held_by_number h n k e xs)

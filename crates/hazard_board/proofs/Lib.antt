@@ -24,7 +24,6 @@ pub mod ShelfLemmas
 pub mod PartLemmas
 pub mod SpotLemmas
 pub mod EventRows
-pub mod Keyed
 pub mod ByZoneLemmas
 pub mod QuietRows
 pub mod ZoneClashes

@@ -4,6 +4,7 @@ use Rattle.std.specs.List.{AllByRecursion, list_any}
 use Rattle.std.specs.List.Sorted.{IsStrictlySortedBy}
 use Rattle.std.proofs.lemmas.Bool.{and_parts, and_from, false_from_ne_true}
 use Rattle.std.proofs.lemmas.Bool.Decides.{nat_tests}
+use Rattle.std.proofs.lemmas.Map.Views.{any-filter_same}
 use Rattle.std.proofs.lemmas.List.Kept.{IsStrictlySortedBy-filter}
 use Rattle.hazard_types.specs.Places.{Place}
 use Rattle.hazard_types.specs.Same.{same_zone}
@@ -167,16 +168,6 @@ first_shown t rows =
 pub alike_first : (t : ℕ) (xs ys : List Row) → shown_at t xs ≡ shown_at t ys → first_clash t xs ≡ first_clash t ys
 alike_first t xs ys alike = sym (first_shown t xs) ∙ ap (first_clash t) alike ∙ first_shown t ys
 
-any_step : (p q : Row → Bool) (b : Bool) (r : Row) (rows : List Row) → p r ≡ b → (q r ≡ true → p r ≡ true) → list_any q (filter p rows) ≡ list_any q rows → list_any q (filter p (r ∷ rows)) ≡ list_any q (r ∷ rows)
-any_step p q true r rows is own more = rw is (ap (λ (c : Bool). q r || c) more)
-any_step p q false r rows is own more =
-    let out : q r ≡ false = false_from_ne_true _ (λ h. let never : true ≡ false = sym (own h) ∙ is in cc) in
-    rw (is, out) more
-
-any_within : (p q : Row → Bool) (rows : List Row) → ((r : Row) → q r ≡ true → p r ≡ true) → list_any q (filter p rows) ≡ list_any q rows
-any_within p q [] own = refl
-any_within p q (r ∷ rows) own = any_step p q (p r) r rows refl (own r) (any_within p q rows own)
-
 either_live : (t : ℕ) (a b : Row) (c d : Bool) → clash t a b ≡ c → clash t b a ≡ d → (c || d) ≡ true → is_live t b ≡ true
 either_live t a b true d is also h = (clash_live t a b is).1
 either_live t a b false true is also h = (clash_live t b a also).0
@@ -185,9 +176,9 @@ either_live t a b false false is also h = cc
 alike_among : (t : ℕ) (xs ys : List Row) (r : Row) → shown_at t xs ≡ shown_at t ys → clashes_among t xs r ≡ clashes_among t ys r
 alike_among t xs ys r alike =
     let live : (b : Row) → clash_either t r b ≡ true → is_live t b ≡ true = λ b h. either_live t r b (clash t r b) (clash t b r) refl refl h in
-    sym (any_within (is_live t) (clash_either t r) xs live)
+    sym (any-filter_same (clash_either t r) (is_live t) true live xs)
     ∙ ap (list_any (clash_either t r)) alike
-    ∙ any_within (is_live t) (clash_either t r) ys live
+    ∙ any-filter_same (clash_either t r) (is_live t) true live ys
 
 alike_if : (t : ℕ) (xs ys : List Row) (o : Option Row) → shown_at t xs ≡ shown_at t ys → clashes_if t xs o ≡ clashes_if t ys o
 alike_if t xs ys None alike = refl

@@ -12,7 +12,8 @@ use Rattle.hazard_board.specs.Shelves.{on_shelves, by_from, AreBefore, AreFrom, 
 use Rattle.hazard_board.specs.declared.shelves.Shelf.{Shelf}
 use Rattle.hazard_board.proofs.Places.{zone_never_falls}
 use Rattle.hazard_board.proofs.Runs.{Up, up_by}
-use Rattle.hazard_board.proofs.ShelfLemmas.{turned, all_joined, all_front, all_back, all_each, all_set, all_at, sorted_front, sorted_back, starts_set}
+use Rattle.event_life.proofs.OnceLemmas.{all_joined}
+use Rattle.hazard_board.proofs.ShelfLemmas.{turned, all_front, all_back, all_each, all_set, all_at, sorted_front, sorted_back, starts_set}
 use Rattle.hazard_board.proofs.ZoneLemmas.{sorted_left}
 
 -- where a zone begins
@@ -262,3 +263,7 @@ kept_more n was now then first second = record {
   shelved = λ rows shelved. second.shelved rows (first.shelved rows shelved);
   room = λ m low have. second.room m low (first.room m low have);
 }
+
+-- a shelf that is set to one with its rows and no less room keeps what is kept before
+pub set_kept_more : (n : ℕ) (was now : List Shelf) (k : ℕ) (s shelf : Shelf) → k < length now → s ≡ get_or now k s → shelf.from ≡ s.from → shelf.rows.items ≡ s.rows.items → room s ≤ room shelf → AreKept n was now → AreKept n was (slice_set now k shelf)
+set_kept_more n was now k s shelf inside is from same more kept = kept_more n was now (slice_set now k shelf) kept (set_kept n now k s shelf inside is from same more)

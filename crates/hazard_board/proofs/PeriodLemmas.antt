@@ -34,7 +34,7 @@ use Rattle.hazard_board.specs.Standing.{latest_end}
 use Rattle.hazard_board.specs.Taken.{wanted, row_if, row_after_on_life, put_if}
 use Rattle.hazard_board.specs.declared.periods.PeriodCount.{PeriodCount}
 use Rattle.hazard_board.proofs.GoingLemmas.{open_by, open_by_end}
-use Rattle.hazard_board.proofs.Keyed.{same_tests}
+use Rattle.event_life.proofs.Keyed.{same_tests}
 use Rattle.hazard_board.proofs.Places.{is_tied, first_less}
 use Rattle.hazard_board.proofs.Runs.{Rises, front, rises, found_there, not_there, not_this, past_all, inserted, replaced, removed, keeps_left, default_free}
 use Rattle.hazard_board.proofs.SpotLemmas.{by_year_total, year_ties, year_tied, put_in_order}

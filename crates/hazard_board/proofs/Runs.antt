@@ -1,5 +1,5 @@
 -- Lists whose items rise against a key: the items at the key are a run, and the first of them is found at its front.
-use Rattle.std.proofs.Common.{◌≡◌, ◌≢◌, ◌∙◌, ℕ, suc, zero, ◌+◌, ◌<◌, ◌≤◌, List, [], ◌∷◌, Bool, true, false, Some, None, Ordering, Less, Equal, Greater, refl, sym, ap, length, get_or, take, drop, insert, remove, slice_set, filter, find, is_eq, is_lt, is_le, arith, one-add}
+use Rattle.std.proofs.Common.{◌≡◌, ◌≢◌, ◌∙◌, ℕ, suc, zero, ◌+◌, ◌<◌, ◌≤◌, List, [], ◌∷◌, Bool, true, false, Some, None, Ordering, Less, Equal, Greater, refl, sym, ap, length, get_or, take, drop, insert, remove, slice_set, filter, find, is_eq, is_lt, is_le, arith, one-add, cond}
 use Rattle.std.specs.List.{AllByRecursion, prefix_len}
 use Rattle.std.specs.List.Sorted.{IsStrictlySortedBy, IsPartitionedBy}
 use Rattle.std.specs.Ordering.{ordering_reverse}
@@ -275,3 +275,20 @@ module _ {X : Type 0} (ord : X → Ordering) where
 
   pub past_all : (xs : List X) (i : ℕ) → Rises ord xs → i ≡ front ord xs → length xs ≤ i → find (tied ord) xs ≡ None
   past_all xs i up place past = not_there xs i up place (λ d lt. absurd (omega (arith, lt, past)))
+
+-- an item that is put in where none ties
+module _ {X : Type 0} (ord : X → Ordering) (y : X) (xs : List X) (i : ℕ) (place : i ≡ front ord xs) where
+  pub put_behind : length xs ≤ i → insert xs i y ≡ put_at ord y xs
+  put_behind past = inserted ord y xs i place (λ d lt. absurd (omega (arith, lt, past)))
+
+  pub put_before : (x : X) → i < length xs → x ≡ get_or xs i x → tied ord x ≡ false → insert xs i y ≡ put_at ord y xs
+  put_before x within is other = inserted ord y xs i place (λ d lt. ap (tied ord) (default_free ord xs i d x lt ∙ sym is) ∙ other)
+
+kept_if : {X : Type 0} (P : X → Type 0) (b : Bool) (x : X) (xs : List X) → (b ≡ true → P x) → AllByRecursion P xs → AllByRecursion P (cond b (x ∷ xs) xs)
+kept_if P true x xs own more = (own refl, more)
+kept_if P false x xs own more = more
+
+-- what a test tells of an item holds of all that pass it
+pub all_that_pass : {X : Type 0} (P : X → Type 0) (test : X → Bool) → ((x : X) → test x ≡ true → P x) → (xs : List X) → AllByRecursion P (filter test xs)
+all_that_pass P test told [] = tt
+all_that_pass P test told (x ∷ xs) = kept_if P (test x) x (filter test xs) (told x) (all_that_pass P test told xs)

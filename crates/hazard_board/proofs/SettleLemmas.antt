@@ -147,12 +147,15 @@ module _ (rows : List PeriodCount) (lines : List Line) (was now : List Standing)
       ap (λ (b : Bool). b && is_none (end_in was line.event)) p.0 ∙ ap is_none (sym (end_unset anew))
 
   -- there is room for an event that comes
-  pub room_left : (length_was length_now capacity : ℕ) → touches_anew (take i lines) line ≡ true → end_in now line.event ≡ None → length_now ≤ length_was + newly was (take i lines) → length_was + newly was lines ≤ capacity → length_now < capacity
+  room_left : (length_was length_now capacity : ℕ) → touches_anew (take i lines) line ≡ true → end_in now line.event ≡ None → length_now ≤ length_was + newly was (take i lines) → length_was + newly was lines ≤ capacity → length_now < capacity
   room_left length_was length_now capacity anew none so room =
       let more = counted comes lines i line within is in
       let one : ◌≡◌ {A = ℕ} (cond (comes line) 1 0) 1 = ap (λ (b : Bool). cond {A = ℕ} b 1 0) (counts_one anew ∙ ap is_none none) in
       let front = front_counts comes lines (i + 1) in
       omega (arith, more, one, front, so, room)
+
+  pub room_moved : (length_was length_now capacity : ℕ) → moves_end now line (latest_in rows line.event) ≡ true → end_in now line.event ≡ None → length_now ≤ length_was + newly was (take i lines) → length_was + newly was lines ≤ capacity → length_now < capacity
+  room_moved length_was length_now capacity moves = room_left length_was length_now capacity (moves_anew moves)
 
   pub grown_anew : (length_was length_now length_after : ℕ) → touches_anew (take i lines) line ≡ true → length_now ≤ length_was + newly was (take i lines) → length_after ≤ length_now + cond (is_none (end_in now line.event)) 1 0 → length_after ≤ length_was + newly was (take (i + 1) lines)
   grown_anew length_was length_now length_after anew so more =

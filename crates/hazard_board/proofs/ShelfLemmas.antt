@@ -15,6 +15,7 @@ use Rattle.hazard_types.proofs.Equality.{zone_one}
 use Rattle.hazard_types.proofs.OrderLaws.{by_place_total}
 use Rattle.event_life.specs.Products.{by_key, placed, put}
 use Rattle.event_life.proofs.Keys.{by_key-total}
+use Rattle.event_life.proofs.OnceLemmas.{all_joined}
 use Rattle.event_life.proofs.Puts.{put-all, put-sorted}
 use Rattle.hazard_board.specs.Board.{slice_of}
 use Rattle.hazard_board.specs.Shelves.{on_shelves, by_from, through, AreBefore, AreWithin, AreShelved, HaveRoom, least_room}
@@ -44,10 +45,6 @@ abbrev pub AreBehind : Place → List Row → Type 0
 AreBehind z rows = AllByRecursion (λ (r : Row). by_place z r.zone ≡ Less) rows
 
 -- lists
-
-pub all_joined : {X : Type 0} (P : X → Type 0) (xs ys : List X) → AllByRecursion P xs → AllByRecursion P ys → AllByRecursion P (xs ++ ys)
-all_joined P [] ys all more = more
-all_joined P (x ∷ xs) ys all more = (all.0, all_joined P xs ys all.1 more)
 
 pub all_front : {X : Type 0} (P : X → Type 0) (xs ys : List X) → AllByRecursion P (xs ++ ys) → AllByRecursion P xs
 all_front P [] ys all = tt

@@ -1,5 +1,5 @@
 -- Spots in order: where one stands, and what they tell of rows once a row is put.
-use Rattle.std.proofs.Common.{◌≡◌, ◌≢◌, ◌∙◌, ◌||◌, ℕ, suc, ◌+◌, ◌<◌, ◌≤◌, List, [], ◌∷◌, Bool, true, false, Option, Some, None, Ordering, Less, Equal, Greater, refl, sym, ap, cond, find, is_eq, is_some, length, get_or, take, drop, drop-cons, insert, slice_set, arith}
+use Rattle.std.proofs.Common.{◌≡◌, ◌≢◌, ◌∙◌, ◌||◌, ℕ, suc, ◌+◌, ◌<◌, List, [], ◌∷◌, Bool, true, false, Option, Some, None, Ordering, Less, Equal, Greater, refl, sym, ap, cond, find, is_eq, is_some, length, get_or, take, drop, drop-cons, arith}
 use Rattle.std.specs.List.{AllByRecursion}
 use Rattle.std.specs.List.Sorted.{IsStrictlySortedBy}
 use Rattle.std.specs.Ordering.{nat_cmp, ordering_reverse}
@@ -22,7 +22,7 @@ use Rattle.hazard_board.specs.Spots.{by_year, by_spot, is_spot, has_spot, spots_
 use Rattle.hazard_board.specs.Taken.{row_left, put_if, taken_in_turn}
 use Rattle.hazard_board.specs.declared.spots.Spot.{Spot}
 use Rattle.hazard_board.proofs.Places.{alike, is_tied, first_less}
-use Rattle.hazard_board.proofs.Runs.{Rises, front, back, rises, run, inserted, replaced, keeps_put, default_free}
+use Rattle.hazard_board.proofs.Runs.{Rises, front, back, rises, run, keeps_put}
 use Rattle.hazard_board.proofs.Turns.{put_held, fresh_longer}
 
 -- the order
@@ -70,18 +70,6 @@ pub event_run : (e : Event) (spots : List Spot) → IsStrictlySortedBy by_spot s
 event_run e spots up =
     run (λ s. by_year s.event e) spots (rises by_year_total by_spot (λ s. s.event) event_never_falls e spots up)
     ∙ filter_agree (λ s. is_eq (by_year s.event e)) (λ s. same_event s.event e) (λ s. year_tied s.event e) spots
-
--- a spot at its seat
-
-module _ (s : Spot) (spots : List Spot) (i : ℕ) (place : i ≡ front (λ x. by_spot x s) spots) where
-  pub seat_there : (x : Spot) → i < length spots → x ≡ get_or spots i x → is_eq (by_spot x s) ≡ true → slice_set spots i s ≡ put_spot s spots
-  seat_there x within is own = replaced (λ x. by_spot x s) s spots i x place within is own
-
-  pub seat_behind : length spots ≤ i → insert spots i s ≡ put_spot s spots
-  seat_behind past = inserted (λ x. by_spot x s) s spots i place (λ d lt. absurd (omega (arith, lt, past)))
-
-  pub seat_before : (x : Spot) → i < length spots → x ≡ get_or spots i x → is_eq (by_spot x s) ≡ false → insert spots i s ≡ put_spot s spots
-  seat_before x within is other = inserted (λ x. by_spot x s) s spots i place (λ d lt. ap (λ (y : Spot). is_eq (by_spot y s)) (default_free (λ x. by_spot x s) spots i d x lt ∙ sym is) ∙ other)
 
 -- a list in order stays so where an item is put
 

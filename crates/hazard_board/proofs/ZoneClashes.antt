@@ -21,8 +21,10 @@ use Rattle.hazard_board.specs.Board.{slice_of}
 use Rattle.hazard_board.specs.ByZone.{lines_of}
 use Rattle.hazard_board.specs.Clashes.{clash, clash_of, first_clash, earlier_clash}
 use Rattle.hazard_board.proofs.SliceLemmas.{names_zone}
-use Rattle.hazard_board.proofs.Keyed.{zone_at}
+use Rattle.event_life.proofs.Keyed.{zone_at}
 use Rattle.hazard_board.proofs.Places.{zone_never_falls}
+use Rattle.hazard_board.proofs.Runs.{all_that_pass}
+use Rattle.hazard_board.proofs.ZoneLemmas.{further}
 
 turned_zone : (a b : Place) → same_zone a b ≡ false → same_zone b a ≡ false
 turned_zone a b h = false_from_ne_true _ (λ g.
@@ -43,17 +45,12 @@ find_in_zone t row (r ∷ rows) =
 
 -- no row of an earlier zone stands behind a row
 
-further : (o : Ordering) (p q r : Place) → by_place p q ≡ Less → by_place q r ≡ o → o ≢ Greater → by_place p r ≡ Less
-further Less p q r less is fall = by_place_total.trans p q r less is
-further Equal p q r less is fall = subst (λ (x : Place). by_place p x ≡ Less) (by_place_ties q r is) less
-further Greater p q r less is fall = absurd (fall refl)
-
-apart_less : (z y : Place) → by_place z y ≡ Less → same_zone y z ≡ false
+pub apart_less : (z y : Place) → by_place z y ≡ Less → same_zone y z ≡ false
 apart_less z y less = false_from_ne_true _ (λ g.
     let tied : by_place z y ≡ Equal = ap (λ (x : Place). by_place z x) (zone_one y z g) ∙ tied_itself by_place_total z in cc)
 
 not_greater : (p q r : Place) → by_place p q ≡ Less → by_place q r ≢ Greater → by_place p r ≡ Less
-not_greater p q r less fall = further (by_place q r) p q r less refl fall
+not_greater p q r less fall = further p q r (by_place q r) refl less fall
 
 none_further : (z : Place) (row : Row) (rows : List Row) → by_place z row.zone ≡ Less → AllByRecursion (λ y. by_key row y ≡ Less) rows → slice_of z rows ≡ []
 none_further z row [] less all = refl
@@ -101,14 +98,7 @@ module _ (t : ℕ) where
   -- of a zone's rows the clash is of the zone
 
   all_of_zone : (z : Place) (rows : List Row) → AllByRecursion (λ (r : Row). r.zone ≡ z) (slice_of z rows)
-  all_of_zone z [] = tt
-  all_of_zone z (r ∷ rows) =
-      let step : (b : Bool) → same_zone r.zone z ≡ b → AllByRecursion (λ (r : Row). r.zone ≡ z) (cond b (r ∷ slice_of z rows) (slice_of z rows)) =
-      λ b. elim b as (λ b. same_zone r.zone z ≡ b → AllByRecursion (λ (r : Row). r.zone ≡ z) (cond b (r ∷ slice_of z rows) (slice_of z rows))) [
-        | true ↦ λ is. (zone_one r.zone z is, all_of_zone z rows)
-        | false ↦ λ is. all_of_zone z rows
-      ] in
-      step (same_zone r.zone z) refl
+  all_of_zone z rows = all_that_pass (λ (r : Row). r.zone ≡ z) (λ (r : Row). same_zone r.zone z) (λ r is. zone_one r.zone z is) rows
 
   zone_by_found : (o : Option Row) (z : Place) (row : Row) (more : Option Clash) (c : Clash) → row.zone ≡ z → (more ≡ Some c → c.zone ≡ z) → option_or (option_map (clash_of row) o) more ≡ Some c → c.zone ≡ z
   zone_by_found None z row more c own rest h = rest h

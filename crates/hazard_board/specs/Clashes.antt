@@ -7,9 +7,11 @@ use Rattle.hazard_types.specs.Orders.{by_event}
 use Rattle.hazard_types.specs.Places.{by_place}
 use Rattle.hazard_types.specs.Same.{same_zone, same_event}
 use Rattle.hazard_types.specs.declared.line.Clash.{Clash}
+use Rattle.hazard_types.specs.declared.line.Line.{Line}
 use Rattle.hazard_types.specs.declared.line.Row.{Row}
 use Rattle.event_life.specs.Higher.{are_kin, may_yield}
 use Rattle.event_life.specs.Periods.{is_live, overlaps}
+use Rattle.hazard_board.specs.Taken.{rows_taken}
 
 -- both are live in one zone, and their events are two of one family whose periods overlap
 abbrev pub clash : ℕ → Row → Row → Bool
@@ -34,6 +36,13 @@ first_in (c ∷ more) = Some c
 -- the first of these: of rows by zone, then event, the least
 abbrev pub least_clash : ℕ → List Row → Option Clash
 least_clash t rows = first_in (clashes t rows)
+
+-- after lines of which each is judged by the life that it meets alone
+abbrev pub clashes_after : List Row → ℕ → List Line → List Clash
+clashes_after rows t lines = clashes t (rows_taken rows t lines)
+
+abbrev pub least_after : List Row → ℕ → List Line → Option Clash
+least_after rows t lines = least_clash t (rows_taken rows t lines)
 
 -- by zone, then the first event, then the second
 abbrev pub by_clash : Clash → Clash → Ordering

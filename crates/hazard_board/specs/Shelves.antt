@@ -16,6 +16,10 @@ abbrev pub on_shelves : List Shelf → List Row
 on_shelves [] = []
 on_shelves (s ∷ later) = s.rows.items ++ on_shelves later
 
+-- some rows and those on shelves are the same as others and those on theirs, in the same order
+abbrev pub HoldSame : List Row → List Shelf → List Row → List Shelf → Type 0
+HoldSame first later first' later' = first' ++ on_shelves later' ≡ first ++ on_shelves later
+
 -- the order of shelves by their first zones
 abbrev pub by_from : Shelf → Shelf → Ordering
 by_from = on (λ (s : Shelf). s.from) by_place

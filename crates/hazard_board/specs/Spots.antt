@@ -1,5 +1,5 @@
 -- Spots: the event and zone of each row, by year, number, hazard and zone. The spots of one event stand together, and lead to its rows.
-use Rattle.std.specs.Prelude.{◌≡◌, ◌&&◌, ◌<◌, ◌≤◌, ℕ, Bool, false, List, [], ◌∷◌, filter, find, length, insert, slice_set, Option, Some, None, is_some, Result, Ok, Err}
+use Rattle.std.specs.Prelude.{◌≡◌, ◌&&◌, ℕ, Bool, false, List, [], ◌∷◌, filter, find, length, Option, Some, None, is_some}
 use Rattle.std.specs.List.Sorted.{IsStrictlySortedBy}
 use Rattle.std.specs.declared.cmp.Ordering.{Ordering}
 use Rattle.std.specs.Ordering.{on, then_cmp, nat_cmp}
@@ -43,15 +43,6 @@ put_spot s spots = put_at (λ (x : Spot). by_spot x s) s spots
 abbrev pub put_spot_if : Option Row → List Spot → List Spot
 put_spot_if None spots = spots
 put_spot_if (Some row) spots = put_spot (spot_of row) spots
-
--- the spots with the spot in the place of another, or before what stands at a place
-abbrev pub spot_seated : Result ℕ ℕ → Spot → List Spot → List Spot
-spot_seated (Ok i) s spots = slice_set spots i s
-spot_seated (Err i) s spots = insert spots i s
-
-abbrev pub IsSpotSeat : Result ℕ ℕ → List Spot → Type 0
-IsSpotSeat (Ok i) spots = i < length spots
-IsSpotSeat (Err i) spots = i ≤ length spots
 
 abbrev pub first_found : Option Row → List Row → List Row
 first_found None rows = rows

@@ -1,6 +1,6 @@
 //! Lines by zone.
-ghost use Rattle.std.specs.Prelude.{◌≡◌, [], IfOk, OnOk};
-ghost use Rattle.hazard_board.specs.ByZone.{lines_at, add_to_zone, add_to_zones};
+ghost use Rattle.std.specs.Prelude.{◌≡◌, [], ◌∷◌, IfOk, OnOk};
+ghost use Rattle.hazard_board.specs.ByZone.{lines_at, add_to_zones};
 
 use hazard_types::{Line, List, Oom, Zone};
 use std::alloc::Global;
@@ -11,7 +11,7 @@ pub type LinesByZone = BTreeMap<Zone, List<Line>>;
 
 /// Adds a line after those of its zone.
 fn add_to_zone(alloc: Global, zones: &mut LinesByZone, line: &Line) -> Result<(), Oom>
-    ensures { OnOk result (zones.new.entries ≡ add_to_zone zones.old.entries line.now) }
+    ensures { OnOk result (zones.new.entries ≡ add_to_zones zones.old.entries (line.now ∷ [])) }
 {
     let lines = zones.entry(line.zone)?.or_insert(List::new(alloc));
     lines.extend(&[*line])

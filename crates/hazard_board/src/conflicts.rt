@@ -22,6 +22,9 @@ use hazard_types::{Clash, Hazard, Line, Minute, Oom, Row, Zone};
 use std::alloc::{AllocError, Global};
 use std::collections::BTreeSet;
 
+/// A clash, or `None` if there is none; `Oom` if memory ran out on the way.
+pub type FoundClash = Result<Option<Clash>, Oom>;
+
 /// Whether two hazards are of one family.
 ///
 /// Source: docs/HAZARDS.md.
@@ -173,7 +176,7 @@ fn clash_in(
     own: &[Line],
     t: Minute,
     z: &Zone,
-) -> Result<Option<Clash>, Oom>
+) -> FoundClash
     requires order { IsStrictlySortedBy by_key rows.now.rows }
     requires apart { EachToLater (λ a b. collide a b ≡ true → ⊥) rows.now.rows }
     requires own { own.now ≡ lines_of z.now lines.now }
@@ -223,12 +226,7 @@ fn only_zone(lines: &[Line]) -> Option<Zone>
 
 /// Returns the first clash after `lines`, given that no two unended rows of one zone and family
 /// overlap. Looks at the zones of `lines` only.
-pub fn clash_in_zones(
-    alloc: Global,
-    rows: &BoardRows,
-    lines: &[Line],
-    t: Minute,
-) -> Result<Option<Clash>, Oom>
+pub fn clash_in_zones(alloc: Global, rows: &BoardRows, lines: &[Line], t: Minute) -> FoundClash
     requires order { IsStrictlySortedBy by_key rows.now.rows }
     requires apart { EachToLater (λ a b. collide a b ≡ true → ⊥) rows.now.rows }
     ensures { IfOk result (λ found. found ≡ first_clash t (rows_taken rows.now.rows t lines.now)) }
@@ -251,12 +249,7 @@ pub fn clash_in_zones(
 }
 
 /// Returns the first clash after `lines`, in any zone.
-pub fn clash_anywhere(
-    alloc: Global,
-    rows: &BoardRows,
-    lines: &[Line],
-    t: Minute,
-) -> Result<Option<Clash>, Oom>
+pub fn clash_anywhere(alloc: Global, rows: &BoardRows, lines: &[Line], t: Minute) -> FoundClash
     requires { IsStrictlySortedBy by_key rows.now.rows }
     ensures { IfOk result (λ found. found ≡ first_clash t (rows_taken rows.now.rows t lines.now)) }
 {

@@ -11,10 +11,9 @@ ghost use Rattle.event_life.specs.Products.{by_key, row_at, has_rows, going_in, 
 ghost use Rattle.event_life.specs.Shown.{shown_at};
 ghost use Rattle.event_life.specs.Reordered.{are_lawful};
 ghost use Rattle.hazard_board.specs.Board.{has_period, slice_of, live_in, by_row_event, openings};
-ghost use Rattle.hazard_board.specs.Clashes.{clashes, least_clash, by_clash};
+ghost use Rattle.hazard_board.specs.Clashes.{by_clash, clashes_after, least_after};
 ghost use Rattle.hazard_board.specs.Consistent.{collide, EachToLater};
 ghost use Rattle.hazard_board.specs.Standing.{AreStandingOf};
-ghost use Rattle.hazard_board.specs.Taken.{rows_taken};
 
 mod board_rows;
 mod by_zone;
@@ -29,8 +28,9 @@ mod spots;
 mod standing;
 
 use board_rows::BoardRows;
+pub use conflicts::FoundClash;
 use conflicts::{clash_anywhere, clash_in_zones};
-use hazard_types::{Clash, Event, Hazard, Line, List, Minute, Oom, Period, Row, Zone};
+use hazard_types::{Event, Hazard, Line, List, Minute, Oom, Period, Row, Zone};
 pub use laws::{
     consistent_rows_have_one_open_event, consistent_rows_stay_consistent, lawful_lines_are_taken,
     lines_on_held_numbers_are_taken, no_event_comes_ahead_of_its_year, no_rows_are_consistent,
@@ -226,16 +226,9 @@ impl Board {
     /// Out of memory.
     ///
     /// Source: docs/DECISIONS.md, "Lives".
-    pub fn conflict(
-        &self,
-        alloc: Global,
-        lines: &List<Line>,
-        t: Minute,
-    ) -> Result<Option<Clash>, Oom>
-        ensures value { IfOk result
-            (λ found. found ≡ least_clash t (rows_taken self.now.rows t lines.now)) }
-        ensures order { IsStrictlySortedBy by_clash
-            (clashes t (rows_taken self.now.rows t lines.now)) }
+    pub fn conflict(&self, alloc: Global, lines: &List<Line>, t: Minute) -> FoundClash
+        ensures value { IfOk result (λ found. found ≡ least_after self.now.rows t lines.now) }
+        ensures order { IsStrictlySortedBy by_clash (clashes_after self.now.rows t lines.now) }
         ensures all_in_order { IsStrictlySortedBy by_key self.now.rows }
     {
         clash_anywhere(alloc, &self.rows, lines.as_slice(), t)
@@ -247,17 +240,10 @@ impl Board {
     /// # Errors
     ///
     /// Out of memory.
-    pub fn conflict_in_zones(
-        &self,
-        alloc: Global,
-        lines: &List<Line>,
-        t: Minute,
-    ) -> Result<Option<Clash>, Oom>
+    pub fn conflict_in_zones(&self, alloc: Global, lines: &List<Line>, t: Minute) -> FoundClash
         requires apart { EachToLater (λ a b. collide a b ≡ true → ⊥) self.now.rows }
-        ensures value { IfOk result
-            (λ found. found ≡ least_clash t (rows_taken self.now.rows t lines.now)) }
-        ensures order { IsStrictlySortedBy by_clash
-            (clashes t (rows_taken self.now.rows t lines.now)) }
+        ensures value { IfOk result (λ found. found ≡ least_after self.now.rows t lines.now) }
+        ensures order { IsStrictlySortedBy by_clash (clashes_after self.now.rows t lines.now) }
         ensures all_in_order { IsStrictlySortedBy by_key self.now.rows }
     {
         clash_in_zones(alloc, &self.rows, lines.as_slice(), t)

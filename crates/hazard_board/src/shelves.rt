@@ -7,7 +7,7 @@ ghost use Rattle.hazard_types.specs.Places.{by_place};
 ghost use Rattle.event_life.specs.Products.{by_key, put, row_at};
 ghost use Rattle.event_life.specs.Shown.{shown_at};
 ghost use Rattle.hazard_board.specs.Board.{by_row_event, slice_of};
-ghost use Rattle.hazard_board.specs.Shelves.{on_shelves, by_from, through, least_room, HaveRoom, AreShelved, AreKept, IsCut, IsZoneAt};
+ghost use Rattle.hazard_board.specs.Shelves.{on_shelves, HoldSame, by_from, through, least_room, HaveRoom, AreShelved, AreKept, IsCut, IsZoneAt};
 ghost use Rattle.hazard_board.specs.declared.shelves.Shelf.{Shelf as AnyShelf};
 
 use crate::searches::{put, row_at, rows_before, rows_through, slice_of};
@@ -180,8 +180,7 @@ fn reserve_shelves(later: &mut Vec<Shelf>, n: usize) -> Result<(), Oom>
 /// capacity for `n` more rows.
 fn split_first_shelf(first: &mut Vec<Row>, later: &mut Vec<Shelf>, n: usize) -> Result<(), Oom>
     requires { AreShelved first.old.items later.old.items }
-    ensures rows { first.new.items ++ on_shelves later.new.items
-        ≡ first.old.items ++ on_shelves later.old.items }
+    ensures rows { HoldSame first.old.items later.old.items first.new.items later.new.items }
     ensures shelved { AreShelved first.new.items later.new.items }
     ensures spare { vec_capacity first.old - vec_len first.old
         ≤ vec_capacity first.new - vec_len first.new }
@@ -199,8 +198,7 @@ fn split_first_shelf(first: &mut Vec<Row>, later: &mut Vec<Shelf>, n: usize) -> 
 /// Takes memory for `n` more rows on each shelf, the first rows among them, and splits long ones.
 fn reserve_each(first: &mut Vec<Row>, later: &mut Vec<Shelf>, n: usize) -> Result<(), Oom>
     requires { AreShelved first.old.items later.old.items }
-    ensures rows { first.new.items ++ on_shelves later.new.items
-        ≡ first.old.items ++ on_shelves later.old.items }
+    ensures rows { HoldSame first.old.items later.old.items first.new.items later.new.items }
     ensures shelved { AreShelved first.new.items later.new.items }
     ensures spare { least_room (vec_capacity first.old - vec_len first.old) later.old.items ≤ n
         → least_room (vec_capacity first.old - vec_len first.old) later.old.items

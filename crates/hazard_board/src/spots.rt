@@ -7,7 +7,8 @@ ghost use Rattle.std.specs.Ordering.{is_lt, is_le};
 ghost use Rattle.std.specs.Vec.{vec_capacity};
 ghost use Rattle.hazard_types.specs.Same.{same_event};
 ghost use Rattle.event_life.specs.Products.{by_key};
-ghost use Rattle.hazard_board.specs.Spots.{by_year, by_spot, spots_of, put_spot, put_spot_if, spot_seated, IsSpotSeat, first_of, rows_on, AreSpots};
+ghost use Rattle.event_life.specs.Seats.{IsSeat, seated};
+ghost use Rattle.hazard_board.specs.Spots.{by_year, by_spot, spots_of, put_spot, put_spot_if, first_of, rows_on, AreSpots};
 
 use crate::board_rows::BoardRows;
 use crate::searches::then_by_event;
@@ -51,8 +52,8 @@ fn spots_below(spots: &[Spot], spot: &Spot) -> usize
 /// Returns the index of the spot, or as `Err` the index at which it belongs.
 fn seat_of(spots: &[Spot], spot: &Spot) -> Result<usize, usize>
     requires { IsStrictlySortedBy by_spot spots.now }
-    ensures seat { IsSpotSeat result spots.now }
-    ensures seated { spot_seated result spot.now spots.now ≡ put_spot spot.now spots.now }
+    ensures seat { IsSeat result spots.now }
+    ensures seated { seated result spot.now spots.now ≡ put_spot spot.now spots.now }
 {
     let place = spots_below(spots, spot);
     if place >= spots.len() {

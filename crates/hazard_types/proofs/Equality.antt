@@ -1,5 +1,5 @@
 -- What the derived `==` tells: it holds exactly of identical values.
-use Rattle.std.proofs.Common.{◌≡◌, ℕ, List, Bool, true, false, Option, Some, None, refl, ap, rules, nat_eq, ◌==◌, subst}
+use Rattle.std.proofs.Common.{◌≡◌, ◌&&◌, ℕ, List, Bool, true, false, Option, Some, None, refl, ap, rules, nat_eq, ◌==◌, subst}
 use Rattle.std.specs.Bool.{Decides, beq}
 use Rattle.std.specs.Option.{option_eq}
 use Rattle.std.specs.Str.{bytes_eq}
@@ -101,6 +101,24 @@ option_one same one _ _ h = cc
 pub list_one : {A : Type 0} (same : A → A → Bool) → ((x y : A) → Decides (same x y) (x ≡ y)) → (xs ys : List A) → pointwise same xs ys ≡ true → xs ≡ ys
 list_one same decides xs ys h = (slice_eq-Decides decides xs ys _ refl).0 h
 
+-- a value made of two is one value where both are
+pub two_one : {X Y Z : Type 0} (make : X → Y → Z) (same : X → X → Bool) (also : Y → Y → Bool) → ((x y : X) → same x y ≡ true → x ≡ y) → ((p q : Y) → also p q ≡ true → p ≡ q) → (x y : X) (p q : Y) → (same x y && also p q) ≡ true → make x p ≡ make y q
+two_one make same also one other x y p q h =
+    let both = and_parts (same x y) _ h in
+    let first = one x y both.0 in
+    let second = other p q both.1 in
+    λ i. make (first i) (second i)
+
+-- a value made of three is one value where all three are
+pub three_one : {X Y Z U : Type 0} (make : X → Y → Z → U) (same : X → X → Bool) (also : Y → Y → Bool) (last : Z → Z → Bool) → ((x y : X) → same x y ≡ true → x ≡ y) → ((p q : Y) → also p q ≡ true → p ≡ q) → ((v w : Z) → last v w ≡ true → v ≡ w) → (x y : X) (p q : Y) (v w : Z) → (same x y && (also p q && last v w)) ≡ true → make x p v ≡ make y q w
+three_one make same also last one other third x y p q v w h =
+    let both = and_parts (same x y) _ h in
+    let rest = and_parts (also p q) _ both.1 in
+    let a = one x y both.0 in
+    let b = other p q rest.0 in
+    let c = third v w rest.1 in
+    λ i. make (a i) (b i) (c i)
+
 pub class_one : (a b : Class) → class.eq-value.it a b ≡ true → a ≡ b
 class_one a b h = same_true class_type.the_type (search rules) a b h
 
@@ -168,13 +186,7 @@ pub minute_one : (a b : ℕ) → minute.eq-value.it a b ≡ true → a ≡ b
 minute_one a b h = number_one a b h
 
 pub zone_one : (a b : Place) → zone.eq-value.it a b ≡ true → a ≡ b
-zone_one a b h =
-    let p0 = and_parts (bytes_eq a.state b.state) _ h in
-    let p1 = and_parts (kind.eq-value.it a.kind b.kind) _ p0.1 in
-    let state_is = bytes_one a.state b.state p0.0 in
-    let kind_is = kind_one a.kind b.kind p1.0 in
-    let number_is = number_one a.number b.number p1.1 in
-    λ i. record { state = state_is i; kind = kind_is i; number = number_is i }
+zone_one a b h = three_one (λ (x : List ℕ) (k : Kind) (n : ℕ). record { state = x; kind = k; number = n }) bytes_eq kind.eq-value.it nat_eq bytes_one kind_one number_one a.state b.state a.kind b.kind a.number b.number h
 
 pub zone_itself : (a : Place) → zone.eq-value.it a a ≡ true
 zone_itself = zone_laws.laws-law.refl
@@ -183,11 +195,7 @@ pub zone_decides : (a b : Place) → Decides (zone.eq-value.it a b) (a ≡ b)
 zone_decides = decided zone.eq-value.it zone_itself zone_one
 
 pub hazard_one : (a b : Hazard) → hazard.eq-value.it a b ≡ true → a ≡ b
-hazard_one a b h =
-    let p0 = and_parts (phen.eq-value.it a.phen b.phen) _ h in
-    let phen_is = phen_one a.phen b.phen p0.0 in
-    let sig_is = sig_one a.sig b.sig p0.1 in
-    λ i. record { phen = phen_is i; sig = sig_is i }
+hazard_one a b h = two_one (λ (p : List ℕ) (s : Sig). record { phen = p; sig = s }) phen.eq-value.it sig.eq-value.it phen_one sig_one a.phen b.phen a.sig b.sig h
 
 pub hazard_itself : (a : Hazard) → hazard.eq-value.it a a ≡ true
 hazard_itself = hazard_laws.laws-law.refl
@@ -196,13 +204,7 @@ pub hazard_decides : (a b : Hazard) → Decides (hazard.eq-value.it a b) (a ≡ 
 hazard_decides = decided hazard.eq-value.it hazard_itself hazard_one
 
 pub event_one : (a b : Event) → event.eq-value.it a b ≡ true → a ≡ b
-event_one a b h =
-    let p0 = and_parts (hazard.eq-value.it a.hazard b.hazard) _ h in
-    let p1 = and_parts (nat_eq a.etn b.etn) _ p0.1 in
-    let hazard_is = hazard_one a.hazard b.hazard p0.0 in
-    let etn_is = number_one a.etn b.etn p1.0 in
-    let year_is = number_one a.year b.year p1.1 in
-    λ i. record { hazard = hazard_is i; etn = etn_is i; year = year_is i }
+event_one a b h = three_one (λ (x : Hazard) (n y : ℕ). record { hazard = x; etn = n; year = y }) hazard.eq-value.it nat_eq nat_eq hazard_one number_one number_one a.hazard b.hazard a.etn b.etn a.year b.year h
 
 pub event_itself : (a : Event) → event.eq-value.it a a ≡ true
 event_itself = event_laws.laws-law.refl
@@ -224,11 +226,7 @@ begin_one (begin_is.At x) (begin_is.At y) h = ap (λ z. begin_is.At z) (minute_o
 begin_one _ _ h = cc
 
 pub period_one : (a b : Period) → period.eq-value.it a b ≡ true → a ≡ b
-period_one a b h =
-    let p0 = and_parts (minute.eq-value.it a.begin b.begin) _ h in
-    let begin_is = minute_one a.begin b.begin p0.0 in
-    let end_is = end_one a.end b.end p0.1 in
-    λ i. record { begin = begin_is i; end = end_is i }
+period_one a b h = two_one (λ (m : ℕ) (e : End). record { begin = m; end = e }) minute.eq-value.it end.eq-value.it minute_one end_one a.begin b.begin a.end b.end h
 
 pub flood_one : (a b : Flood) → flood.eq-value.it a b ≡ true → a ≡ b
 flood_one a b h =

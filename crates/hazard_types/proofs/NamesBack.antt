@@ -23,7 +23,7 @@ kind_back : (k : Kind) → kind_at (kind_code k) ≡ Some k
 kind_back C = refl
 kind_back Z = refl
 
-sig_back : (s : Sig) → sig_at (sig_letter s) ≡ Some s
+pub sig_back : (s : Sig) → sig_at (sig_letter s) ≡ Some s
 sig_back W = refl
 sig_back A = refl
 sig_back Y = refl

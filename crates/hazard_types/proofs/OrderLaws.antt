@@ -1,5 +1,5 @@
 -- The orders of zones, hazards, events and ends are total, and a tie is one value.
-use Rattle.std.proofs.Common.{◌≡◌, ◌∙◌, ◌==◌, ℕ, List, true, refl, ap, sym, arith, if◌then◌else◌}
+use Rattle.std.proofs.Common.{◌≡◌, ◌∙◌, ℕ, List, Option, Some, None, true, refl, ap, sym, arith}
 use Rattle.std.specs.declared.cmp.Ordering.{Ordering}
 use Rattle.std.specs.declared.cmp.Ordering.TheVariants.{Less, Equal, Greater}
 use Rattle.std.specs.Ordering.{nat_cmp, ordering_then, is_eq, eq_by_cmp}
@@ -11,9 +11,9 @@ use Rattle.std.proofs.lemmas.Bool.Decides.{nat_tests}
 use Rattle.std.proofs.lemmas.Map.Text.{is_eq-slice_cmp}
 use Rattle.std.proofs.lemmas.Slice.Eq.{bytes_eq-Decides}
 use Rattle.hazard_types.specs.Places.{Place, kind_rank, by_place}
+use Rattle.hazard_types.specs.Names.{sig_at}
 use Rattle.hazard_types.specs.Orders.{sig_letter, by_letter, by_hazard, by_event, by_end}
 use Rattle.hazard_types.specs.declared.hazard.Sig.{Sig}
-use Rattle.hazard_types.specs.declared.hazard.Sig.TheVariants.{W, A, Y, S, F, O, N}
 use Rattle.hazard_types.specs.declared.hazard.Hazard.{Hazard}
 use Rattle.hazard_types.specs.declared.hazard.Event.{Event}
 use Rattle.hazard_types.specs.declared.zone.Kind.{Kind}
@@ -23,6 +23,7 @@ use Rattle.hazard_types.specs.declared.period.End.TheVariants.{At, Ufn}
 use Rattle.hazard_types.specs.contracts.period.EndOrd.TheImpl as end
 use Rattle.hazard_types.specs.contracts.hazard.EventOrd.TheImpl as event
 use Rattle.hazard_types.specs.contracts.period.EndOrd.TheImpl.Laws as end_laws
+use Rattle.hazard_types.proofs.NamesBack.{sig_back}
 
 pub by_letter_total : IsTotalOrder by_letter
 by_letter_total = on_total sig_letter nat_cmp_total
@@ -47,23 +48,13 @@ numbers_tied m n h = grind (arith, nat_tests)
 texts_tied : (xs ys : List ℕ) → slice_cmp nat_cmp xs ys ≡ Equal → xs ≡ ys
 texts_tied xs ys h = (bytes_eq-Decides xs ys).0 (sym (is_eq-slice_cmp xs ys) ∙ ap is_eq h)
 
--- the significance of a letter
-sig_of : ℕ → Sig
-sig_of n = if n == 87 then W else if n == 65 then A else if n == 89 then Y else if n == 83 then S else if n == 70 then F else if n == 79 then O else N
-
-sig_back : (s : Sig) → sig_of (sig_letter s) ≡ s
-unfolding sig_of
-sig_back W = refl
-sig_back A = refl
-sig_back Y = refl
-sig_back S = refl
-sig_back F = refl
-sig_back O = refl
-sig_back N = refl
+abbrev value_or : Sig → Option Sig → Sig
+value_or s None = s
+value_or s (Some t) = t
 
 -- ties are one value
 pub by_letter_ties : (a b : Sig) → by_letter a b ≡ Equal → a ≡ b
-by_letter_ties a b h = sym (sig_back a) ∙ ap sig_of (numbers_tied (sig_letter a) (sig_letter b) h) ∙ sig_back b
+by_letter_ties a b h = ap (value_or a) (sym (sig_back a) ∙ ap sig_at (numbers_tied (sig_letter a) (sig_letter b) h) ∙ sig_back b)
 
 kinds_tied : (a b : Kind) → nat_cmp (kind_rank a) (kind_rank b) ≡ Equal → a ≡ b
 kinds_tied C C h = refl

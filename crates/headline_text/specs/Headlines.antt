@@ -2,6 +2,7 @@
 use Rattle.std.specs.Prelude.{ℕ, nat_lt, Bool, true, false, List, [], ◌∷◌, ◌++◌, if◌then◌else◌, Option, unwrap_or, codes}
 use Rattle.std.specs.Char.{to_ascii_uppercase}
 use Rattle.desk_clock.specs.LocalText.{local_short_of}
+use Rattle.hazard_types.specs.Actions.{leaves_live}
 use Rattle.hazard_types.specs.Hazards.{name_of}
 use Rattle.hazard_types.specs.declared.codes.Action.{Action}
 use Rattle.hazard_types.specs.declared.codes.Action.TheVariants.{New, Con, Exa, Ext, Exb, Upg, Can, Exp, Cor, Rou}
@@ -54,18 +55,9 @@ abbrev pub capital : List ℕ → List ℕ
 capital [] = []
 capital (c ∷ cs) = to_ascii_uppercase c ∷ cs
 
--- CAN, EXP, UPG and ROU have no WHEN bullet
+-- a line that leaves its row live has a WHEN bullet: CAN, EXP, UPG and ROU have none
 abbrev pub has_when : Action → Bool
-has_when New = true
-has_when Exa = true
-has_when Exb = true
-has_when Ext = true
-has_when Con = true
-has_when Cor = true
-has_when Can = false
-has_when Exp = false
-has_when Upg = false
-has_when Rou = false
+has_when a = leaves_live a
 
 -- the WHEN bullet of a line in a product of minute t
 unfoldable pub when_of : SegLine → LocalZone → ℕ → List ℕ

@@ -1,2 +1,1 @@
-pub mod Lettering
 pub mod Laying

@@ -11,21 +11,14 @@ use Rattle.hazard_types.specs.Codes.{value_for_code}
 use Rattle.hazard_types.specs.Tables.{severity_rows, status_rows}
 use Rattle.hazard_types.specs.Letters.{severity_code, status_code}
 
--- what stands before, between and behind the columns
-pub record AreSeparated (bytes : List ℕ) : Type 0 where
-  pub before_location : slice_range bytes 0 1 ≡ codes "/"
-  pub before_severity : slice_range bytes 6 7 ≡ codes "."
-  pub before_cause : slice_range bytes 8 9 ≡ codes "."
-  pub before_begin : slice_range bytes 11 12 ≡ codes "."
-  pub before_crest : slice_range bytes 24 25 ≡ codes "."
-  pub before_end : slice_range bytes 37 38 ≡ codes "."
-  pub before_status : slice_range bytes 50 51 ≡ codes "."
-  pub behind : slice_range bytes 53 54 ≡ codes "/"
+-- the bytes before, between and behind the columns
+abbrev pub separators : List ℕ → List ℕ
+separators b = slice_index b 0 ∷ slice_index b 6 ∷ slice_index b 8 ∷ slice_index b 11 ∷ slice_index b 24 ∷ slice_index b 37 ∷ slice_index b 50 ∷ slice_index b 53 ∷ []
 
 -- each column of the 54 bytes has what the values say; severity and status are those that stand beside its letters in their tables, and a cause is any two capital letters
 pub record IsHvtec (bytes : List ℕ) (h : Flood) : Type 0 where
   pub size : length bytes ≡ 54
-  pub separated : AreSeparated bytes
+  pub separated : separators bytes ≡ codes "/....../"
   pub location : slice_range bytes 1 6 ≡ h.site
   pub is_location : IsTrue (is_location h.site)
   pub severity : value_for_code severity_rows (slice_range bytes 7 8) ≡ Some h.severity
@@ -42,10 +35,6 @@ hvtec_text h = codes "/" ++ (h.site ++ (codes "." ++ (severity_code h.severity +
     ++ (time_text h.crest ++ (codes "." ++ (time_text h.end ++ (codes "." ++ (status_code h.status ++ codes "/")))))))))))))
 
 -- ---- the values of a text as a function
-
--- the bytes before, between and behind the columns
-abbrev pub separators : List ℕ → List ℕ
-separators b = slice_index b 0 ∷ slice_index b 6 ∷ slice_index b 8 ∷ slice_index b 11 ∷ slice_index b 24 ∷ slice_index b 37 ∷ slice_index b 50 ∷ slice_index b 53 ∷ []
 
 -- the length and the separators
 unfoldable pub has_columns : List ℕ → Bool

@@ -7,5 +7,5 @@ mod columns;
 mod read;
 mod write;
 
-pub use read::read_hvtec;
+pub use read::{hvtec_values, read_hvtec};
 pub use write::{hvtec_columns, hvtec_text};

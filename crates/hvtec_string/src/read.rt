@@ -30,7 +30,7 @@ fn has_columns(bytes: &[u8]) -> bool
 }
 
 /// Returns the values of all columns, or `None` if one of them is missing.
-fn values(
+pub fn hvtec_values(
     site: Option<[u8; 5]>,
     severity: Option<Severity>,
     cause: Option<Cause>,
@@ -59,7 +59,7 @@ fn values_of(bytes: &[u8]) -> Option<Flood>
     if !has_columns(bytes) {
         return None;
     }
-    values(
+    hvtec_values(
         parse_location(&bytes[LOCATION]),
         Severity::from_code(&bytes[SEVERITY..SEVERITY + 1]),
         cause_of(&bytes[CAUSE]),

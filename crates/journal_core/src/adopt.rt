@@ -1,8 +1,7 @@
 //! Reads a journal from a disk, record by record.
-ghost use Rattle.std.specs.Prelude.{◌≡◌, ◌⊎◌, ◌↔◌, ◌+◌, ◌<◌, ◌≤◌, ℕ, List, Option, None, Some, [], ◌∷◌, ◌++◌, length, IfOk, OnOk, IsTrue, IsErrOf};
+ghost use Rattle.std.specs.Prelude.{◌≡◌, ◌⊎◌, ◌↔◌, ◌+◌, ◌<◌, ℕ, List, Option, None, Some, [], ◌∷◌, ◌++◌, length, IfOk, OnOk, IsTrue};
 ghost use Rattle.std.specs.Int.{w32, to_be_bytes, from_be_bytes};
 ghost use Rattle.desk_traits.specs.Crash.{Passes};
-ghost use Rattle.desk_traits.specs.Faults.{Rose};
 ghost use Rattle.desk_traits.specs.File.{Same, IsWithin, IsLength, Only};
 ghost use Rattle.journal_core.specs.declared.adopt.ReadFault.TheVariants.{Failing, Memory};
 
@@ -60,7 +59,7 @@ pub(crate) enum Found {
 }
 
 ghost use Rattle.journal_core.specs.Image.{Fresh};
-ghost use Rattle.journal_core.specs.Adopt.{Steps, Ends, IsFound, IsGated, Settles};
+ghost use Rattle.journal_core.specs.Adopt.{Counts, Steps, Ends, IsFound, IsGated, Settles};
 
 /// Returns the number that four bytes are, most significant first.
 fn size_of(head: [u8; 4]) -> u32
@@ -79,11 +78,7 @@ fn read_record<D: Disk>(alloc: Global, disk: &mut D, at: u64, n: u64) -> Result<
     ensures step { IfOk result (λ step. Steps at step (D.seen disk.old)) }
     ensures bound { IfOk result (λ step. Ends at n step) }
     ensures crash { Passes Same (D.crash disk.old) (D.crash disk.new) }
-    ensures later { D.faults disk.old ≤ D.faults disk.new }
-    ensures cause { IsErrOf result ReadFault.Failing
-        → Rose (D.faults disk.old) (D.faults disk.new) }
-    ensures steady { OnOk result (D.faults disk.new ≡ D.faults disk.old) }
-    ensures lacking { IsErrOf result ReadFault.Memory → D.faults disk.new ≡ D.faults disk.old }
+    ensures faults { Counts (D.faults disk.old) (D.faults disk.new) result }
 {
     let mut gate = [0; 1];
     disk.read_at(at, &mut gate)?;
@@ -113,11 +108,7 @@ fn scan<D: Disk>(alloc: Global, disk: &mut D, n: u64) -> Result<Found, ReadFault
         (λ found. IsFound found file) }
     ensures gate { IfOk result IsGated }
     ensures crash { Passes Same (D.crash disk.old) (D.crash disk.new) }
-    ensures later { D.faults disk.old ≤ D.faults disk.new }
-    ensures cause { IsErrOf result ReadFault.Failing
-        → Rose (D.faults disk.old) (D.faults disk.new) }
-    ensures steady { OnOk result (D.faults disk.new ≡ D.faults disk.old) }
-    ensures lacking { IsErrOf result ReadFault.Memory → D.faults disk.new ≡ D.faults disk.old }
+    ensures faults { Counts (D.faults disk.old) (D.faults disk.new) result }
 {
     let mut bodies: List<Text> = List::new(alloc);
     let mut at: u64 = 0;
@@ -151,11 +142,7 @@ pub(crate) fn find<D: Disk>(alloc: Global, disk: &mut D) -> Result<Found, ReadFa
         → D.syncs disk.old ≡ Some before
         → OnOk result (Settles D.crash D.syncs before file disk.new) }
     ensures crash { Passes Same (D.crash disk.old) (D.crash disk.new) }
-    ensures later { D.faults disk.old ≤ D.faults disk.new }
-    ensures cause { IsErrOf result ReadFault.Failing
-        → Rose (D.faults disk.old) (D.faults disk.new) }
-    ensures steady { OnOk result (D.faults disk.new ≡ D.faults disk.old) }
-    ensures lacking { IsErrOf result ReadFault.Memory → D.faults disk.new ≡ D.faults disk.old }
+    ensures faults { Counts (D.faults disk.old) (D.faults disk.new) result }
 {
     match look(disk)? {
         Start::Short => Ok(Found::Unmade),

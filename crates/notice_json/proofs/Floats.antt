@@ -1,42 +1,16 @@
--- The members of a refusal have no float.
-use Rattle.std.proofs.Common.{◌≡◌, ◌||◌, ℕ, List, Bool, true, false, refl, codes}
-use Rattle.std.specs.declared.cmp.Ordering.{Ordering}
-use Rattle.std.specs.declared.cmp.Ordering.TheVariants.{Less, Equal, Greater}
-use Rattle.std.specs.Ordering.{nat_cmp, match_ordering}
-use Rattle.std.specs.Cmp.Lexicographic.{slice_cmp}
-use Rattle.serde_json.specs.Data.{Data, Members, no_members, member, put, number, unsigned}
-use Rattle.serde_json.specs.Written.{has_float, members_have_float}
+-- The members of a refusal have no float, and its text no line feed.
+use Rattle.std.proofs.Common.{◌≡◌, ◌≢◌, ℕ, List, false, codes}
+use Rattle.std.specs.List.{All}
+use Rattle.serde_json.specs.Data.{object, Members}
+use Rattle.serde_json.specs.Written.{members_have_float}
 use Rattle.hazard_types.specs.Calendar.{stamp_of}
 use Rattle.hazard_types.specs.Names.{zone_text, event_text}
-use Rattle.notice_json.specs.Refusals.{as_text, put_text, put_number, label, labelled, put_values}
+use Rattle.json_parts.specs.Written.{labelled}
+use Rattle.json_parts.proofs.Floats.{put_text_no_float, put_number_no_float, labelled_no_float}
+use Rattle.json_parts.proofs.Lines.{compact_line}
+use Rattle.notice_json.specs.Refusals.{label, put_values, refusal_text}
 use Rattle.notice_json.specs.declared.refusal.NoticeRefusal.{NoticeRefusal}
 use Rattle.notice_json.specs.declared.refusal.NoticeRefusal.TheVariants as refusal
-
-either : (a b : Bool) → (a || b) ≡ false → (a ≡ false) × (b ≡ false)
-either false b h = (refl, h)
-either true b h = absurd (cc)
-
-beside : (o : Ordering) (k l : List ℕ) (d e : Data) (ms : Members) → has_float d ≡ false → has_float e ≡ false → members_have_float ms ≡ false → members_have_float (put k d ms) ≡ false
-    → members_have_float (match_ordering o (member k d (member l e ms)) (member l d ms) (member l e (put k d ms))) ≡ false
-beside Less k l d e ms hd he hm hp = rw (hd, he, hm) refl
-beside Equal k l d e ms hd he hm hp = rw (hd, hm) refl
-beside Greater k l d e ms hd he hm hp = rw (he, hp) refl
-
-no_float_put : (k : List ℕ) (d : Data) (ms : Members) → has_float d ≡ false → members_have_float ms ≡ false → members_have_float (put k d ms) ≡ false
-no_float_put k d no_members hd hm = rw hd refl
-no_float_put k d (member l e ms) hd hm =
-    let h = either (has_float e) (members_have_float ms) hm in
-    beside (slice_cmp nat_cmp k l) k l d e ms hd h.0 h.1 (no_float_put k d ms hd h.1)
-
-text_no_float : (bytes : List ℕ) → has_float (as_text bytes) ≡ false
-unfolding as_text
-text_no_float bytes = refl
-
-put_text_no_float : (k : List ℕ) (bytes : List ℕ) (ms : Members) → members_have_float ms ≡ false → members_have_float (put_text k bytes ms) ≡ false
-put_text_no_float k bytes ms h = no_float_put k (as_text bytes) ms (text_no_float bytes) h
-
-put_number_no_float : (k : List ℕ) (n : ℕ) (ms : Members) → members_have_float ms ≡ false → members_have_float (put_number k n ms) ≡ false
-put_number_no_float k n ms h = no_float_put k (number (unsigned n)) ms refl h
 
 values_no_float : (r : NoticeRefusal) (ms : Members) → members_have_float ms ≡ false → members_have_float (put_values r ms) ≡ false
 unfolding put_values
@@ -55,8 +29,9 @@ values_no_float (refusal.LeftBefore zone) ms h = put_text_no_float (codes "zone"
 values_no_float (refusal.NotLive zone) ms h = put_text_no_float (codes "zone") (zone_text zone) ms h
 values_no_float (refusal.TooLong bytes) ms h = put_number_no_float (codes "bytes") bytes ms h
 
-labelled_no_float : (l : List ℕ × List ℕ) → members_have_float (labelled l) ≡ false
-labelled_no_float l = put_text_no_float (codes "rule") l.1 (put_text (codes "no") l.0 no_members) (put_text_no_float (codes "no") l.0 no_members refl)
+pub refusal_no_float : (r : NoticeRefusal) (l : List ℕ × List ℕ) → members_have_float (put_values r (labelled l)) ≡ false
+refusal_no_float r l = values_no_float r (labelled l) (labelled_no_float l)
 
-pub refusal_no_float : (r : NoticeRefusal) → members_have_float (put_values r (labelled (label r))) ≡ false
-refusal_no_float r = values_no_float r (labelled (label r)) (labelled_no_float (label r))
+pub refusal_line : (r : NoticeRefusal) → All (λ (b : ℕ). b ≢ 10) (refusal_text r)
+unfolding refusal_text
+refusal_line r = compact_line (object (put_values r (labelled (label r))))

@@ -1,31 +1,17 @@
--- The texts of refusals: compact JSON. `put` sets a member at its key's place, so keys are in byte order.
+-- The texts of refusals: compact JSON. A member is set at its key's place, so keys are in byte order.
 use Rattle.std.specs.Prelude.{ℕ, List, codes}
-use Rattle.std.specs.Str.Lossy.{utf8_lossy}
-use Rattle.serde_json.specs.Data.{Data, number, unsigned, string, object, Members, no_members, put}
+use Rattle.serde_json.specs.Data.{object, Members}
 use Rattle.serde_json.specs.Written.{compact_text}
 use Rattle.hazard_types.specs.Calendar.{stamp_of}
-use Rattle.hazard_types.specs.Names.{zone_text, event_text}
-use Rattle.hazard_types.specs.Places.{Place}
+use Rattle.hazard_types.specs.Names.{event_text}
 use Rattle.hazard_types.specs.declared.hazard.Event.{Event}
+use Rattle.json_parts.specs.Written.{put_text, put_number, put_zone, labelled}
 use Rattle.notice_json.specs.declared.refusal.NoticeRefusal.{NoticeRefusal}
 use Rattle.notice_json.specs.declared.refusal.NoticeRefusal.TheVariants as refusal
-
--- a text; bytes that are no UTF-8 are written lossily
-unfoldable pub as_text : List ℕ → Data
-as_text bytes = string (utf8_lossy bytes)
-
-abbrev pub put_text : List ℕ → List ℕ → Members → Members
-put_text key bytes ms = put key (as_text bytes) ms
-
-abbrev pub put_number : List ℕ → ℕ → Members → Members
-put_number key n ms = put key (number (unsigned n)) ms
 
 -- a minute by its stamp
 abbrev pub put_minute : List ℕ → ℕ → Members → Members
 put_minute key m ms = put_text key (stamp_of m) ms
-
-abbrev pub put_zone : Place → Members → Members
-put_zone z ms = put_text (codes "zone") (zone_text z) ms
 
 abbrev pub put_event_name : Event → Members → Members
 put_event_name e ms = put_text (codes "event") (event_text e) ms
@@ -63,10 +49,6 @@ put_values refusal.NoWatch ms = ms
 put_values (refusal.LeftBefore zone) ms = put_zone zone ms
 put_values (refusal.NotLive zone) ms = put_zone zone ms
 put_values (refusal.TooLong bytes) ms = put_number (codes "bytes") bytes ms
-
--- a code and a name
-abbrev pub labelled : List ℕ × List ℕ → Members
-labelled l = put_text (codes "rule") l.1 (put_text (codes "no") l.0 no_members)
 
 -- the object of a refusal's code, name and values
 unfoldable pub refusal_text : NoticeRefusal → List ℕ

@@ -4,7 +4,6 @@
 
 mod command;
 mod laws;
-mod members;
 mod reading;
 mod refusal;
 mod refusal_texts;

@@ -1,13 +1,13 @@
 //! The texts of refusals.
 ghost use Rattle.std.specs.Prelude.{◌≡◌, IfOk, OnOk};
 ghost use Rattle.serde_json.specs.View.{members_view};
-ghost use Rattle.notice_json.specs.Refusals.{label, labelled, put_minute, put_zone};
-ghost use Rattle.notice_json.specs.Refusals.{put_event_name, put_values, refusal_text};
+ghost use Rattle.notice_json.specs.Refusals.{label, put_minute, put_values, refusal_text};
 
-use crate::members::{Members, put_size, put_text, text_of_members};
 use crate::refusal::NoticeRefusal;
-use hazard_types::{Event, List, Minute, Oom, Text, Zone, put_event, stamp, zone_text};
-use serde_json::Map;
+use hazard_types::{Minute, Oom, Text, stamp};
+use json_parts::{
+    Members, labelled, put_event_text, put_size, put_text, put_zone, text_of_members,
+};
 use std::alloc::Global;
 
 /// Returns the code and the name of a refusal.
@@ -41,22 +41,6 @@ fn put_minute(alloc: Global, members: &mut Members, key: &str, minute: &Minute) 
     put_text(alloc, members, key, &stamp(*minute))
 }
 
-fn put_zone(alloc: Global, members: &mut Members, zone: &Zone) -> Result<(), Oom>
-    ensures { OnOk result (members_view members.new.entries
-        ≡ put_zone zone.now (members_view members.old.entries)) }
-{
-    put_text(alloc, members, "zone", &zone_text(zone))
-}
-
-fn put_event_name(alloc: Global, members: &mut Members, event: &Event) -> Result<(), Oom>
-    ensures { OnOk result (members_view members.new.entries
-        ≡ put_event_name event.now (members_view members.old.entries)) }
-{
-    let mut name = List::new(alloc);
-    put_event(alloc, &mut name, event)?;
-    put_text(alloc, members, "event", name.as_slice())
-}
-
 /// Sets a member for each value of a refusal.
 #[tactic(auto, unfolding(crate::specs::Refusals::put_values))]
 fn put_values(alloc: Global, members: &mut Members, refusal: &NoticeRefusal) -> Result<(), Oom>
@@ -71,7 +55,7 @@ fn put_values(alloc: Global, members: &mut Members, refusal: &NoticeRefusal) -> 
         | NoticeRefusal::LeftBefore { zone }
         | NoticeRefusal::NotLive { zone } => put_zone(alloc, members, zone),
         NoticeRefusal::NumberUsed { event } | NoticeRefusal::NumberHeld { event } => {
-            put_event_name(alloc, members, event)
+            put_event_text(alloc, members, "event", event)
         }
         NoticeRefusal::TooLong { bytes } => put_size(alloc, members, "bytes", *bytes),
         NoticeRefusal::LineTooLong
@@ -82,18 +66,6 @@ fn put_values(alloc: Global, members: &mut Members, refusal: &NoticeRefusal) -> 
     }
 }
 
-fn refusal_members(alloc: Global, refusal: &NoticeRefusal) -> Result<Members, Oom>
-    ensures { IfOk result (λ members. members_view members.entries
-        ≡ put_values refusal.now (labelled (label refusal.now))) }
-{
-    let (no, rule) = label(refusal);
-    let mut members = Map::new(alloc);
-    put_text(alloc, &mut members, "no", no.as_bytes())?;
-    put_text(alloc, &mut members, "rule", rule.as_bytes())?;
-    put_values(alloc, &mut members, refusal)?;
-    Ok(members)
-}
-
 /// Returns a refusal as a JSON object on one line, without LF: its code as `no`, its name as
 /// `rule`, and its values by name, with the keys in byte order.
 ///
@@ -102,10 +74,12 @@ fn refusal_members(alloc: Global, refusal: &NoticeRefusal) -> Result<Members, Oo
 /// Out of memory.
 ///
 /// Source: docs/NOTICES.md, "Refusals".
-#[tactic(auto, using(crate::proofs::Floats::refusal_no_float), unfolding(crate::specs::Refusals::refusal_text))]
+#[tactic(auto, unfolding(crate::specs::Refusals::refusal_text))]
 pub fn refusal_text(alloc: Global, refusal: &NoticeRefusal) -> Result<Text, Oom>
     ensures { IfOk result (λ text. text ≡ refusal_text refusal.now) }
 {
-    let members = refusal_members(alloc, refusal)?;
+    let (no, rule) = label(refusal);
+    let mut members = labelled(alloc, no, rule)?;
+    put_values(alloc, &mut members, refusal)?;
     text_of_members(alloc, members)
 }

@@ -1,18 +1,16 @@
 //! The values of fields.
-ghost use Rattle.std.specs.Prelude.{◌≡◌, option_map, IfOk};
-ghost use Rattle.serde_json.specs.View.{view, items_view};
-ghost use Rattle.notice_json.specs.Values.{text_at, minute_at, number_of, zones_of, zones_at};
+ghost use Rattle.std.specs.Prelude.{◌≡◌, codes, option_and_then};
+ghost use Rattle.serde_json.specs.View.{view};
+ghost use Rattle.json_parts.specs.Json.{text_at};
+ghost use Rattle.notice_json.specs.Commands.{watch_at};
+ghost use Rattle.notice_json.specs.Keys.{verb_at};
+ghost use Rattle.notice_json.specs.Values.{minute_at, number_of};
 
-use hazard_types::{List, Minute, Oom, Zone, parse_zone, read_stamp};
+use crate::command::Watch;
+use crate::verb::Verb;
+use hazard_types::{Minute, read_stamp};
+use json_parts::text_at;
 use serde_json::Value;
-use std::alloc::Global;
-
-/// Returns the member with this key if it is a string.
-pub fn text_at<'v>(value: &'v Value, key: &str) -> Option<&'v str>
-    ensures { option_map (λ s. s.now) result ≡ text_at key.now (view value.now) }
-{
-    value.get(key).and_then(Value::as_str)
-}
 
 /// Returns the minute of the member with this key if it is a stamp.
 pub fn minute_at(value: &Value, key: &str) -> Option<Minute>
@@ -38,30 +36,16 @@ pub fn number_of(value: &Value) -> Option<u16>
     }
 }
 
-/// Returns the zones that the strings are, or `None` if one is no zone.
-fn zones_of(alloc: Global, values: &[Value]) -> Result<Option<List<Zone>>, Oom>
-    ensures { IfOk result (λ zones. zones ≡ zones_of (items_view values.now)) }
+/// Returns what the member `do` says, if it is `open`, `join` or `end`.
+pub fn verb_of(value: &Value) -> Option<Verb>
+    ensures { result ≡ option_and_then verb_at (text_at (codes "do") (view value.now)) }
 {
-    let mut zones = List::new(alloc);
-    for value in values {
-        match value.as_str().and_then(|text| parse_zone(text.as_bytes())) {
-            Some(zone) => zones.push(zone)?,
-            None => return Ok(None),
-        }
-    }
-    Ok(Some(zones))
+    text_at(value, "do").and_then(|word| Verb::from_word(word))
 }
 
-/// Returns the zones of the member `zones`, or `None` if it is missing or no array of zones.
-///
-/// # Errors
-///
-/// Out of memory.
-pub fn zones_at(alloc: Global, value: &Value) -> Result<Option<List<Zone>>, Oom>
-    ensures { IfOk result (λ zones. zones ≡ zones_at (view value.now)) }
+/// Returns the watch whose code the member `hazard` is.
+pub fn watch_of(value: &Value) -> Option<Watch>
+    ensures { result ≡ option_and_then watch_at (text_at (codes "hazard") (view value.now)) }
 {
-    match value.get("zones").and_then(Value::as_array) {
-        Some(values) => zones_of(alloc, values),
-        None => Ok(None),
-    }
+    text_at(value, "hazard").and_then(|code| Watch::from_code(code))
 }

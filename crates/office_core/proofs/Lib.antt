@@ -2,7 +2,7 @@ mod DraftLemmas
 mod LookLemmas
 mod PartLemmas
 mod WritingLemmas
-mod OnceLemmas
+pub mod OnceLemmas
 pub mod AgreementDecoding
 pub mod AgreementRoutine
 pub mod AgreementReading

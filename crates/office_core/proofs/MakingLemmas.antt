@@ -19,7 +19,7 @@ use Rattle.action_planner.specs.Told.{counts_in}
 use Rattle.product_frame.specs.Frame.{FrameOf}
 use Rattle.product_frame.specs.Splitting.{IsOneProduct}
 use Rattle.product_template.specs.Text.{frame_of}
-use Rattle.office_core.specs.Making.{Making, IsPlanOf, broken_lines, broken_product, last_of_category, letters_of, original_of}
+use Rattle.office_core.specs.Making.{Making, IsPlanOf, broken_lines, broken_product, last_of_category, letters_of, made_of, original_in, original_of}
 use Rattle.office_core.specs.State.{State}
 use Rattle.office_core.specs.Step.{IsMade}
 use Rattle.office_core.specs.Views.{OfficeView}
@@ -68,27 +68,28 @@ pub record IsWritten (s : State) (t : ℕ) (original : Option ℕ) (plan : Plan)
   pub frame : FrameOf made.sent.text (frame_of s.settings s.class plan t)
   pub one : IsOneProduct made.sent.text
 
-pub drafted_well : (s : State) (counts : List Count) (t : ℕ) (c : Category) (intents : List Intent) (plan : Plan) (made : Made) →
-    broken_lines s t (Making.drafted c intents) ≡ None → IsPlanOf s t (Making.drafted c intents) plan → IsTrue (are_lawful s.rows t plan.lines) → AreDrawnInOrder counts plan.opened →
-    IsWritten s t None plan made → IsWellMade s counts t (Making.drafted c intents) made
-drafted_well s counts t c intents plan made kept is lawful numbers written = record {
+-- what a plan makes, where the making has one
+made_well : (s : State) (counts : List Count) (t : ℕ) (making : Making) (plan : Plan) (made : Made) →
+    ((some : Option Made) → some ≡ Some (made_of s t making plan) → broken_product s t plan ≡ None → IsMade s t making some) →
+    broken_lines s t making ≡ None → IsPlanOf s t making plan → IsTrue (are_lawful s.rows t plan.lines) → AreDrawnInOrder counts plan.opened →
+    IsWritten s t (original_in making) plan made → IsWellMade s counts t making made
+made_well s counts t making plan made makes kept is lawful numbers written = record {
   kept = kept;
-  product = (plan, is, written.kept, ap (λ (m : Made). Some m) written.is);
+  product = makes (Some made) (ap (λ (m : Made). Some m) written.is) written.kept;
   reads = (plan, is, written.is, written.frame, written.one);
   lawful = subst (λ (m : Made). IsTrue (are_lawful s.rows t m.sent.lines)) (sym written.is) lawful;
   numbers = subst (λ (m : Made). AreDrawnInOrder counts m.opened) (sym written.is) numbers;
 }
 
+pub drafted_well : (s : State) (counts : List Count) (t : ℕ) (c : Category) (intents : List Intent) (plan : Plan) (made : Made) →
+    broken_lines s t (Making.drafted c intents) ≡ None → IsPlanOf s t (Making.drafted c intents) plan → IsTrue (are_lawful s.rows t plan.lines) → AreDrawnInOrder counts plan.opened →
+    IsWritten s t None plan made → IsWellMade s counts t (Making.drafted c intents) made
+drafted_well s counts t c intents plan made kept is = made_well s counts t (Making.drafted c intents) plan made (λ some one unbroken. (plan, is, unbroken, one)) kept is
+
 pub corrected_well : (s : State) (counts : List Count) (t : ℕ) (sent : Sent) (given : List EventTexts) (plan : Plan) (made : Made) →
     broken_lines s t (Making.corrected sent given) ≡ None → IsPlanOf s t (Making.corrected sent given) plan → IsTrue (are_lawful s.rows t plan.lines) → AreDrawnInOrder counts plan.opened →
     IsWritten s t (Some (original_of sent)) plan made → IsWellMade s counts t (Making.corrected sent given) made
-corrected_well s counts t sent given plan made kept is lawful numbers written = record {
-  kept = kept;
-  product = (plan, is, written.kept, ap (λ (m : Made). Some m) written.is);
-  reads = (plan, is, written.is, written.frame, written.one);
-  lawful = subst (λ (m : Made). IsTrue (are_lawful s.rows t m.sent.lines)) (sym written.is) lawful;
-  numbers = subst (λ (m : Made). AreDrawnInOrder counts m.opened) (sym written.is) numbers;
-}
+corrected_well s counts t sent given plan made kept is = made_well s counts t (Making.corrected sent given) plan made (λ some one unbroken. (plan, is, unbroken, one)) kept is
 
 -- what is said of a writing's result, for one that is there
 pub if_written : {E : Type 0} (s : State) (t : ℕ) (original : Option ℕ) (plan : Plan) (P : Made → Type 0) (r : Result Made E) →

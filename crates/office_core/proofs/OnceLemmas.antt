@@ -22,10 +22,10 @@ use Rattle.office_core.specs.declared.heard.DeskRecord.{DeskRecord}
 use Rattle.office_core.specs.declared.heard.LastRequest.{LastRequest}
 use Rattle.office_core.specs.declared.made.Made.{Made}
 
-bytes_one : (xs ys : List ℕ) → bytes_eq xs ys ≡ true → xs ≡ ys
+pub bytes_one : (xs ys : List ℕ) → bytes_eq xs ys ≡ true → xs ≡ ys
 bytes_one xs ys = (bytes_eq-Decides xs ys).0
 
-bytes_itself : (xs : List ℕ) → bytes_eq xs xs ≡ true
+pub bytes_itself : (xs : List ℕ) → bytes_eq xs xs ≡ true
 bytes_itself xs = (bytes_eq-Decides xs xs).1 refl
 
 -- ---- what is heard of a desk
@@ -140,14 +140,14 @@ pub record Counted (settings : Settings) (earlier : List Entry) (s : State) : Ty
   pub last : (d : List ℕ) → last_of (said_in s.heard d) ≡ length (numbers_by d earlier)
   pub numbers : (d : List ℕ) → numbers_by d earlier ≡ counted_from 1 (length (numbers_by d earlier))
 
-abbrev said_of : Entry → LastRequest
+abbrev pub said_of : Entry → LastRequest
 said_of e = record { seq = e.seq; request = e.request; reply = e.reply }
 
-heard_next : (s : State) (e : Entry) (made : Option Made) → (state_after s e made).heard ≡ heard_after s.heard e.desk (said_of e)
+pub heard_next : (s : State) (e : Entry) (made : Option Made) → (state_after s e made).heard ≡ heard_after s.heard e.desk (said_of e)
 unfolding state_after
 heard_next s e made = refl
 
-settings_next : (s : State) (e : Entry) (made : Option Made) → (state_after s e made).settings ≡ s.settings
+pub settings_next : (s : State) (e : Entry) (made : Option Made) → (state_after s e made).settings ≡ s.settings
 unfolding state_after
 settings_next s e made = refl
 

@@ -31,29 +31,40 @@ HasAnswer shows refuses = ((text : List ℕ) × shows text) ⊎ ((x : Refusal) �
 
 -- ---- a product and a draft
 
+-- what is found is shown as its text, and is missing where there is none
+module _ {X : Type 0} (text_of : X → List ℕ) (missing : Refusal) (ShowsFound : Option X → List ℕ → Type 0) where
+  abbrev IsMissing : Option X → Refusal → Type 0
+  IsMissing found x = (found ≡ None) × (x ≡ missing)
+
+  found_either : ((it : X) → ShowsFound (Some it) (text_of it)) → (found : Option X) → HasAnswer (ShowsFound found) (IsMissing found)
+  found_either shows None = inr (missing, (refl, refl))
+  found_either shows (Some it) = inl (text_of it, shows it)
+
+  found_not_both : ((text : List ℕ) → ShowsFound None text → ⊥) → (found : Option X) (text : List ℕ) (x : Refusal) → ShowsFound found text → IsMissing found x → ⊥
+  found_not_both none None text x shown lacks = none text shown
+  found_not_both none (Some it) text x shown lacks = none_some it (Some it) lacks.0 refl
+
+  found_text : ((text : List ℕ) → ShowsFound None text → ⊥) → ((it : X) (text : List ℕ) → ShowsFound (Some it) text → text ≡ text_of it) → (found : Option X) (text other : List ℕ) → ShowsFound found text → ShowsFound found other → text ≡ other
+  found_text none is None text other one two = absurd (none text one)
+  found_text none is (Some it) text other one two = is it text one ∙ sym (is it other two)
+
 product_either : (found : Option Sent) → HasAnswer (ShowsProduct found) (LacksProduct found)
-product_either None = inr (refusal.NoProduct, (refl, refl))
-product_either (Some sent) = inl (sent.text, refl)
+product_either found = found_either (λ (sent : Sent). sent.text) refusal.NoProduct ShowsProduct (λ sent. refl) found
 
 product_not_both : (found : Option Sent) (text : List ℕ) (x : Refusal) → ShowsProduct found text → LacksProduct found x → ⊥
-product_not_both None text x shown lacks = shown
-product_not_both (Some sent) text x shown lacks = none_some sent (Some sent) lacks.0 refl
+product_not_both found text x shown lacks = found_not_both (λ (sent : Sent). sent.text) refusal.NoProduct ShowsProduct (λ text none. none) found text x shown lacks
 
 product_text : (found : Option Sent) (text other : List ℕ) → ShowsProduct found text → ShowsProduct found other → text ≡ other
-product_text None text other one two = absurd one
-product_text (Some sent) text other one two = one ∙ sym two
+product_text found text other one two = found_text (λ (sent : Sent). sent.text) refusal.NoProduct ShowsProduct (λ text none. none) (λ sent text is. is) found text other one two
 
 draft_either : (found : Option SomeDraft) → HasAnswer (ShowsDraft found) (LacksDraft found)
-draft_either None = inr (refusal.NoDraft, (refl, refl))
-draft_either (Some d) = inl (draft_text d, refl)
+draft_either found = found_either draft_text refusal.NoDraft ShowsDraft (λ d. refl) found
 
 draft_not_both : (found : Option SomeDraft) (text : List ℕ) (x : Refusal) → ShowsDraft found text → LacksDraft found x → ⊥
-draft_not_both None text x shown lacks = shown
-draft_not_both (Some d) text x shown lacks = none_some d (Some d) lacks.0 refl
+draft_not_both found text x shown lacks = found_not_both draft_text refusal.NoDraft ShowsDraft (λ text none. none) found text x shown lacks
 
 draft_text_one : (found : Option SomeDraft) (text other : List ℕ) → ShowsDraft found text → ShowsDraft found other → text ≡ other
-draft_text_one None text other one two = absurd one
-draft_text_one (Some d) text other one two = one ∙ sym two
+draft_text_one found text other one two = found_text draft_text refusal.NoDraft ShowsDraft (λ text none. none) (λ d text is. is) found text other one two
 
 -- ---- a preview
 

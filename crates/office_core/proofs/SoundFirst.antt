@@ -1,6 +1,7 @@
 -- An office begins sound, and what a draft makes is sound.
-use Rattle.std.proofs.Common.{◌≡◌, ◌≤◌, inl, inr, ℕ, List, [], ◌∷◌, true, false, Bool, Option, Some, None, refl, ap, arith, find, cond, map}
+use Rattle.std.proofs.Common.{◌≡◌, ◌≤◌, ℕ, List, [], ◌∷◌, true, false, Bool, Option, Some, None, refl, ap, subst, arith, find, cond, map}
 use Rattle.std.proofs.lemmas.List.Elements.{All-nil, recursion_from_All}
+use Rattle.std.specs.List.{AllByRecursion}
 use Rattle.std.specs.List.Sorted.{IsStrictlySortedBy}
 use Rattle.hazard_types.specs.declared.codes.Class.{Class}
 use Rattle.office_types.specs.declared.request.Draft.{Draft}
@@ -9,7 +10,6 @@ use Rattle.desk_settings.specs.AreSettings.{HasForms}
 use Rattle.desk_settings.specs.declared.settings.Settings.{Settings}
 use Rattle.event_life.specs.Products.{by_key}
 use Rattle.event_numbers.specs.declared.Count.{Count}
-use Rattle.action_planner.proofs.LawfulLists.{Has, all_has}
 use Rattle.action_planner.proofs.Standing.{at_first}
 use Rattle.product_template.specs.Bodies.{is_training}
 use Rattle.office_core.specs.Making.{drafted_by}
@@ -42,14 +42,15 @@ begins settings class edition forms training = record {
   products = All-nil IsSoundProduct;
 }
 
-found_step : (f : Draft → Bool) (b : Bool) (x y : Draft) (xs : List Draft) → cond b (Some x) (find f xs) ≡ Some y → (find f xs ≡ Some y → Has xs y) → Has (x ∷ xs) y
-found_step f true x y xs h more = let same : x ≡ y = cc in inl same
-found_step f false x y xs h more = inr (more h)
+module _ (P : Draft → Type 0) (f : Draft → Bool) where
+  holds_step : (b : Bool) (x y : Draft) (o : Option Draft) → P x → (o ≡ Some y → P y) → cond b (Some x) o ≡ Some y → P y
+  holds_step true x y o own more h = subst P (let same : x ≡ y = cc in same) own
+  holds_step false x y o own more h = more h
 
--- the draft that is found is one of them
-pub found_draft_has : (f : Draft → Bool) (xs : List Draft) (y : Draft) → find f xs ≡ Some y → Has xs y
-found_draft_has f [] y h = cc
-found_draft_has f (x ∷ xs) y h = found_step f (f x) x y xs h (found_draft_has f xs y)
+  -- what holds of each draft holds of the one that is found
+  pub found_holds : (xs : List Draft) (y : Draft) → AllByRecursion P xs → find f xs ≡ Some y → P y
+  found_holds [] y all h = absurd (cc)
+  found_holds (x ∷ xs) y all h = holds_step (f x) x y (find f xs) all.0 (found_holds xs y all.1) h
 
 drafted : (s : State) (o : Option Draft) → ((d : Draft) → o ≡ Some d → IsSoundDraft s.settings s.class d) → IsSoundMaking s (drafted_by o)
 drafted s None own = tt
@@ -57,7 +58,7 @@ drafted s (Some d) own = own d refl
 
 pub draft_found : (s : State) (counts : List Count) (id : ℕ) (d : Draft) → IsSound s counts → draft_at s id ≡ Some d → IsSoundDraft s.settings s.class d
 draft_found s counts id d sound h =
-    all_has (IsSoundDraft s.settings s.class) s.drafts d (recursion_from_All (IsSoundDraft s.settings s.class) s.drafts sound.drafts) (found_draft_has (is_draft id) s.drafts d h)
+    found_holds (IsSoundDraft s.settings s.class) (is_draft id) s.drafts d (recursion_from_All (IsSoundDraft s.settings s.class) s.drafts sound.drafts) h
 
 pub drafts_are : (s : State) (counts : List Count) (id : ℕ) → IsSound s counts → IsSoundMaking s (drafted_by (draft_at s id))
 drafts_are s counts id sound = drafted s (draft_at s id) (λ d h. draft_found s counts id d sound h)

@@ -5,6 +5,7 @@ pub mod TextRules
 pub mod Rules
 pub mod Making
 pub mod Step
+pub mod Edits
 pub mod Sound
 pub mod Agreement
 pub mod Histories

@@ -67,63 +67,43 @@ fn taken_by(alloc: Global, draft: &Draft, t: Minute, desk: &Desk) -> Result<Draf
     })
 }
 
-/// Adds an intent to draft `id`.
-pub(crate) fn put_in(
+/// What a request changes in an open draft: one more intent, behind the others; one less, at a place
+/// counted from 0; or its owner.
+#[derive(Drop)]
+enum Edit {
+    More(Intent),
+    Less(usize),
+    Owner(Desk),
+}
+
+ghost use Rattle.office_core.specs.Edits.{edited};
+
+/// The draft with an edit, touched at minute t.
+fn edited(alloc: Global, draft: &Draft, t: Minute, edit: Edit) -> Result<Draft, Oom>
+    ensures { IfOk result (λ new. new ≡ edited t edit draft.now) }
+{
+    match edit {
+        Edit::More(intent) => with_intent(alloc, draft, t, intent),
+        Edit::Less(place) => without_intent(alloc, draft, t, place),
+        Edit::Owner(desk) => taken_by(alloc, draft, t, &desk),
+    }
+}
+
+/// Makes an edit in draft `id`.
+fn edit_draft(
     alloc: Global,
     drafts: &[Draft],
     id: u32,
     t: Minute,
-    intent: Intent,
+    edit: Edit,
 ) -> Result<DraftChange, Oom>
     ensures drafts { IfOk result
-        (λ change. changed change drafts.now ≡ with_draft (with_intent t intent) id drafts.now) }
+        (λ change. changed change drafts.now ≡ with_draft (edited t edit) id drafts.now) }
     ensures place { IfOk result (λ change. HasPlace change drafts.now) }
 {
     match place_of(drafts, id) {
         Some(place) => {
-            let draft = with_intent(alloc, &drafts[place], t, intent)?;
-            Ok(DraftChange::Replace(place, draft))
-        }
-        None => Ok(DraftChange::Keep),
-    }
-}
-
-/// Removes the intent at `place`, counted from 0, from draft `id`.
-pub(crate) fn drop_from(
-    alloc: Global,
-    drafts: &[Draft],
-    id: u32,
-    t: Minute,
-    place: usize,
-) -> Result<DraftChange, Oom>
-    ensures drafts { IfOk result
-        (λ change. changed change drafts.now ≡ with_draft (without_intent t place) id drafts.now) }
-    ensures place { IfOk result (λ change. HasPlace change drafts.now) }
-{
-    match place_of(drafts, id) {
-        Some(at) => {
-            let draft = without_intent(alloc, &drafts[at], t, place)?;
-            Ok(DraftChange::Replace(at, draft))
-        }
-        None => Ok(DraftChange::Keep),
-    }
-}
-
-/// Makes `desk` the owner of draft `id`.
-pub(crate) fn take_over(
-    alloc: Global,
-    drafts: &[Draft],
-    id: u32,
-    t: Minute,
-    desk: &Desk,
-) -> Result<DraftChange, Oom>
-    ensures drafts { IfOk result
-        (λ change. changed change drafts.now ≡ with_draft (taken_by t desk.now) id drafts.now) }
-    ensures place { IfOk result (λ change. HasPlace change drafts.now) }
-{
-    match place_of(drafts, id) {
-        Some(place) => {
-            let draft = taken_by(alloc, &drafts[place], t, desk)?;
+            let draft = edited(alloc, &drafts[place], t, edit)?;
             Ok(DraftChange::Replace(place, draft))
         }
         None => Ok(DraftChange::Keep),
@@ -172,22 +152,19 @@ impl Office {
         ensures place { IfOk result (λ change. HasPlace change self.now.state.drafts) }
     {
         let drafts = self.drafts.as_slice();
-        match r {
-            Request::Begin(category) => Ok(opened_draft(alloc, self.begun + 1, desk, *category, t)),
-            Request::Put(id, part) => put_in(alloc, drafts, *id, t, Intent::Put(clone_put(part)?)),
-            Request::Finish(id, part) => {
-                put_in(alloc, drafts, *id, t, Intent::Finish(clone_event(part)?))
+        let (id, edit) = match r {
+            Request::Begin(category) => {
+                return Ok(opened_draft(alloc, self.begun + 1, desk, *category, t));
             }
-            Request::Restate(id, part) => {
-                put_in(alloc, drafts, *id, t, Intent::Restate(clone_event(part)?))
-            }
-            Request::Routine(id, part) => {
-                put_in(alloc, drafts, *id, t, Intent::Routine(clone_routine(part)?))
-            }
-            Request::Drop(id, place) => drop_from(alloc, drafts, *id, t, *place as usize),
-            Request::Take(id) => take_over(alloc, drafts, *id, t, desk),
-            Request::Discard(id) | Request::Send(id) => Ok(take_away(drafts, *id)),
-            Request::Issue(_) | Request::Correct(..) => Ok(DraftChange::Keep),
-        }
+            Request::Put(id, part) => (*id, Edit::More(Intent::Put(clone_put(part)?))),
+            Request::Finish(id, part) => (*id, Edit::More(Intent::Finish(clone_event(part)?))),
+            Request::Restate(id, part) => (*id, Edit::More(Intent::Restate(clone_event(part)?))),
+            Request::Routine(id, part) => (*id, Edit::More(Intent::Routine(clone_routine(part)?))),
+            Request::Drop(id, place) => (*id, Edit::Less(*place as usize)),
+            Request::Take(id) => (*id, Edit::Owner(*desk)),
+            Request::Discard(id) | Request::Send(id) => return Ok(take_away(drafts, *id)),
+            Request::Issue(_) | Request::Correct(..) => return Ok(DraftChange::Keep),
+        };
+        edit_draft(alloc, drafts, id, t, edit)
     }
 }

@@ -22,7 +22,6 @@ mod office;
 mod part_rules;
 mod prepared;
 mod preparing;
-mod previewing;
 mod replies;
 mod rules;
 mod series;

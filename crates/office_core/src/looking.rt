@@ -94,7 +94,10 @@ impl Office {
         }
         let t = self.minute_to_come(reading);
         match self.sound_draft_at(id) {
-            Some(draft) => self.make_preview(alloc, draft, t),
+            Some(draft) => {
+                let made = self.make_drafted(alloc, draft, t)?;
+                Ok(made.sent.text)
+            }
             None => Err(Or::No(Refusal::NoDraft)),
         }
     }

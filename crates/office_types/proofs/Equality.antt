@@ -5,9 +5,12 @@ use Rattle.std.specs.Option.{option_eq}
 use Rattle.std.specs.Str.{bytes_eq}
 use Rattle.std.specs.Cmp.Lexicographic.{pointwise}
 use Rattle.std.proofs.lemmas.Bool.{and_parts}
-use Rattle.hazard_types.proofs.Equality.{decided, number_one, nat_decides, bytes_one, option_one, list_one, category_one, zone_decides, hazard_one, event_one, end_one, begin_one, flood_one}
+use Rattle.hazard_types.proofs.Equality.{decided, two_one, three_one, number_one, nat_decides, bytes_one, option_one, list_one, category_one, zone_decides, hazard_one, event_one, end_one, begin_one, flood_one}
 use Rattle.office_types.specs.Desks.{padded}
 use Rattle.office_types.proofs.DeskNames.{padded_take}
+use Rattle.hazard_types.specs.Places.{Place}
+use Rattle.hazard_types.specs.declared.hazard.Hazard.{Hazard}
+use Rattle.hazard_types.specs.declared.hazard.Event.{Event}
 use Rattle.office_types.specs.declared.request.Texts.{Texts}
 use Rattle.office_types.specs.declared.request.EventTexts.{EventTexts}
 use Rattle.office_types.specs.declared.request.Target.{Target}
@@ -60,12 +63,11 @@ texts_one a b h =
     let details_is = (list_one nat_eq nat_decides) a.details b.details p2.1 in
     λ i. record { what = what_is i; area = area_is i; impacts = impacts_is i; details = details_is i }
 
+zones_one : (xs ys : List Place) → pointwise zone.eq-value.it xs ys ≡ true → xs ≡ ys
+zones_one = list_one zone.eq-value.it zone_decides
+
 pub event_texts_one : (a b : EventTexts) → event_texts.eq-value.it a b ≡ true → a ≡ b
-event_texts_one a b h =
-    let p0 = and_parts (event.eq-value.it a.event b.event) _ h in
-    let event_is = event_one a.event b.event p0.0 in
-    let texts_is = texts_one a.texts b.texts p0.1 in
-    λ i. record { event = event_is i; texts = texts_is i }
+event_texts_one a b h = two_one (λ (e : Event) (t : Texts). record { event = e; texts = t }) event.eq-value.it texts.eq-value.it event_one texts_one a.event b.event a.texts b.texts h
 
 pub event_texts_itself : (a : EventTexts) → event_texts.eq-value.it a a ≡ true
 event_texts_itself = event_texts_laws.laws-law.refl
@@ -94,59 +96,23 @@ put_part_one a b h =
     λ i. record { target = target_is i; zones = zones_is i; begin = begin_is i; end = end_is i; flood = flood_is i; texts = texts_is i }
 
 pub event_part_one : (a b : EventPart) → event_part.eq-value.it a b ≡ true → a ≡ b
-event_part_one a b h =
-    let p0 = and_parts (event.eq-value.it a.event b.event) _ h in
-    let p1 = and_parts ((pointwise zone.eq-value.it) a.zones b.zones) _ p0.1 in
-    let event_is = event_one a.event b.event p0.0 in
-    let zones_is = (list_one zone.eq-value.it zone_decides) a.zones b.zones p1.0 in
-    let texts_is = texts_one a.texts b.texts p1.1 in
-    λ i. record { event = event_is i; zones = zones_is i; texts = texts_is i }
+event_part_one a b h = three_one (λ (e : Event) (zs : List Place) (t : Texts). record { event = e; zones = zs; texts = t }) event.eq-value.it (pointwise zone.eq-value.it) texts.eq-value.it event_one zones_one texts_one a.event b.event a.zones b.zones a.texts b.texts h
 
 pub routine_part_one : (a b : RoutinePart) → routine_part.eq-value.it a b ≡ true → a ≡ b
-routine_part_one a b h =
-    let p0 = and_parts (hazard.eq-value.it a.hazard b.hazard) _ h in
-    let p1 = and_parts ((pointwise zone.eq-value.it) a.zones b.zones) _ p0.1 in
-    let hazard_is = hazard_one a.hazard b.hazard p0.0 in
-    let zones_is = (list_one zone.eq-value.it zone_decides) a.zones b.zones p1.0 in
-    let texts_is = texts_one a.texts b.texts p1.1 in
-    λ i. record { hazard = hazard_is i; zones = zones_is i; texts = texts_is i }
+routine_part_one a b h = three_one (λ (x : Hazard) (zs : List Place) (t : Texts). record { hazard = x; zones = zs; texts = t }) hazard.eq-value.it (pointwise zone.eq-value.it) texts.eq-value.it hazard_one zones_one texts_one a.hazard b.hazard a.zones b.zones a.texts b.texts h
 
 pub request_one : (a b : Request) → request.eq-value.it a b ≡ true → a ≡ b
 request_one (request_is.Issue x) (request_is.Issue y) h = ap (λ z. request_is.Issue z) (put_part_one x y h)
 request_one (request_is.Begin x) (request_is.Begin y) h = ap (λ z. request_is.Begin z) (category_one x y h)
-request_one (request_is.Put x p) (request_is.Put y q) h =
-    let both = and_parts (nat_eq x y) _ h in
-    let first = number_one x y both.0 in
-    let second = put_part_one p q both.1 in
-    λ i. request_is.Put (first i) (second i)
-request_one (request_is.Finish x p) (request_is.Finish y q) h =
-    let both = and_parts (nat_eq x y) _ h in
-    let first = number_one x y both.0 in
-    let second = event_part_one p q both.1 in
-    λ i. request_is.Finish (first i) (second i)
-request_one (request_is.Restate x p) (request_is.Restate y q) h =
-    let both = and_parts (nat_eq x y) _ h in
-    let first = number_one x y both.0 in
-    let second = event_part_one p q both.1 in
-    λ i. request_is.Restate (first i) (second i)
-request_one (request_is.Routine x p) (request_is.Routine y q) h =
-    let both = and_parts (nat_eq x y) _ h in
-    let first = number_one x y both.0 in
-    let second = routine_part_one p q both.1 in
-    λ i. request_is.Routine (first i) (second i)
-request_one (request_is.Drop x p) (request_is.Drop y q) h =
-    let both = and_parts (nat_eq x y) _ h in
-    let first = number_one x y both.0 in
-    let second = number_one p q both.1 in
-    λ i. request_is.Drop (first i) (second i)
+request_one (request_is.Put x p) (request_is.Put y q) h = two_one request_is.Put nat_eq put_part.eq-value.it number_one put_part_one x y p q h
+request_one (request_is.Finish x p) (request_is.Finish y q) h = two_one request_is.Finish nat_eq event_part.eq-value.it number_one event_part_one x y p q h
+request_one (request_is.Restate x p) (request_is.Restate y q) h = two_one request_is.Restate nat_eq event_part.eq-value.it number_one event_part_one x y p q h
+request_one (request_is.Routine x p) (request_is.Routine y q) h = two_one request_is.Routine nat_eq routine_part.eq-value.it number_one routine_part_one x y p q h
+request_one (request_is.Drop x p) (request_is.Drop y q) h = two_one request_is.Drop nat_eq nat_eq number_one number_one x y p q h
 request_one (request_is.Take x) (request_is.Take y) h = ap (λ z. request_is.Take z) (number_one x y h)
 request_one (request_is.Discard x) (request_is.Discard y) h = ap (λ z. request_is.Discard z) (number_one x y h)
 request_one (request_is.Send x) (request_is.Send y) h = ap (λ z. request_is.Send z) (number_one x y h)
-request_one (request_is.Correct x p) (request_is.Correct y q) h =
-    let both = and_parts (nat_eq x y) _ h in
-    let first = number_one x y both.0 in
-    let second = (list_one event_texts.eq-value.it event_texts_decides) p q both.1 in
-    λ i. request_is.Correct (first i) (second i)
+request_one (request_is.Correct x p) (request_is.Correct y q) h = two_one request_is.Correct nat_eq (pointwise event_texts.eq-value.it) number_one (list_one event_texts.eq-value.it event_texts_decides) x y p q h
 request_one _ _ h = cc
 
 pub request_itself : (a : Request) → request.eq-value.it a a ≡ true

@@ -15,7 +15,8 @@ use Rattle.row_index.specs.Verdicts.{HaveOwnEvents, leaves_row}
 use Rattle.product_decoder.specs.Lives.{Living, by_living}
 use Rattle.product_decoder.specs.Steps.{Step, Steps, steps_at, with_step, living_of, with_line}
 use Rattle.product_decoder.specs.ZoneSteps.{with_run, with_verdict}
-use Rattle.product_decoder.proofs.StepLemmas.{at_other, by_living_total, by_living_ties}
+use Rattle.row_index.proofs.Lists.{at_other}
+use Rattle.product_decoder.proofs.StepLemmas.{by_living_total, by_living_ties}
 
 -- entries of different keys
 

@@ -66,30 +66,29 @@ added_both d e events = by_order (by_event d e) refl
 
 -- one line in front
 
-abbrev opens : Bool → Bool → Event → List Event → List Event
-opens lawful new e events = cond lawful (cond new (add_event e events) events) events
+abbrev opens : Bool → Event → List Event → List Event
+opens new e events = cond new (add_event e events) events
 
-twice : (lawful new : Bool) (e : Event) (events : List Event) → opens lawful new e (opens lawful new e events) ≡ opens lawful new e events
-twice true true e events = added e events
-twice true false e events = refl
-twice false new e events = refl
+twice : (new : Bool) (e : Event) (events : List Event) → opens new e (opens new e events) ≡ opens new e events
+twice true e events = added e events
+twice false e events = refl
 
-both : (a b c d : Bool) (e f : Event) (events : List Event) → opens a b e (opens c d f events) ≡ opens c d f (opens a b e events)
-both true true true true e f events = added_both f e events
-both true true true false e f events = refl
-both true true false d e f events = refl
-both true false true true e f events = refl
-both true false true false e f events = refl
-both true false false d e f events = refl
-both false b c d e f events = refl
+both : (a b : Bool) (e f : Event) (events : List Event) → opens a e (opens b f events) ≡ opens b f (opens a e events)
+both true true e f events = added_both f e events
+both true false e f events = refl
+both false b e f events = refl
+
+-- a line opens its event where it is lawful, not routine, and NEW
+abbrev is_opening : Line → Option Breach → Bool
+is_opening line o = (not (is_routine line.action) && is_none o) && is_new line.action
 
 abbrev opened_with : Line → Option Breach → List Event → List Event
-opened_with line o events = opens (not (is_routine line.action) && is_none o) (is_new line.action) line.event events
+opened_with line o events = opens (is_opening line o) line.event events
 
 one_more : (line : Line) (o : Option Breach) (rest : List Judged) → opened_by (lawful_of ((line, o) ∷ rest)) ≡ opened_with line o (opened_by (lawful_of rest))
 one_more line o rest = by_test (not (is_routine line.action) && is_none o)
   where
-    by_test : (b : Bool) → opened_by (cond b (line ∷ lawful_of rest) (lawful_of rest)) ≡ opens b (is_new line.action) line.event (opened_by (lawful_of rest))
+    by_test : (b : Bool) → opened_by (cond b (line ∷ lawful_of rest) (lawful_of rest)) ≡ opens (b && is_new line.action) line.event (opened_by (lawful_of rest))
     by_test true = refl
     by_test false = refl
 
@@ -113,13 +112,13 @@ past_all : (v : Verdict) (vs : List Verdict) (events : List Event) → all_opene
 past_all v [] events = refl
 past_all v (w ∷ vs) events =
     ap (opened_with w.line w.breach) (past_all v vs events)
-    ∙ both (not (is_routine w.line.action) && is_none w.breach) (is_new w.line.action) (not (is_routine v.line.action) && is_none v.breach) (is_new v.line.action) w.line.event v.line.event (all_opened vs events)
+    ∙ both (is_opening w.line w.breach) (is_opening v.line v.breach) w.line.event v.line.event (all_opened vs events)
 
 again : (vs : List Verdict) (events : List Event) → all_opened vs (all_opened vs events) ≡ all_opened vs events
 again [] events = refl
 again (v ∷ vs) events =
     ap (opened_with v.line v.breach) (past_all v vs (all_opened vs events))
-    ∙ twice (not (is_routine v.line.action) && is_none v.breach) (is_new v.line.action) v.line.event (all_opened vs (all_opened vs events))
+    ∙ twice (is_opening v.line v.breach) v.line.event (all_opened vs (all_opened vs events))
     ∙ ap (opened_with v.line v.breach) (again vs events)
 
 -- one zone more

@@ -3,15 +3,16 @@ use Rattle.std.proofs.Common.{◌≡◌, ◌∙◌, ℕ, ◌+◌, ◌-◌, ◌�
 use Rattle.std.specs.Prelude.{is_some, IfOk, OnOk, OnErr}
 use Rattle.std.specs.List.{slice_range, list_any, concat}
 use Rattle.std.proofs.lemmas.Bool.{eqb-true}
-use Rattle.std.proofs.lemmas.List.{take_more, get_or-drop}
+use Rattle.std.proofs.lemmas.List.{get_or-drop}
 use Rattle.std.proofs.lemmas.List.Folds.{drop_split, list_any-append}
 use Rattle.std.proofs.Math.Seq.{take-length, take-add}
+use Rattle.ugc_codes.proofs.Walking.{group_more}
 use Rattle.product_frame.specs.LineRules.{are_ended, ends_behind}
 use Rattle.product_frame.proofs.EndToEnd.{ends_append, ends_end}
 use Rattle.product_frame.specs.Text.{line_end, next_start}
 use Rattle.product_frame.proofs.LineEnds.{EndTold, end_told}
 use Rattle.product_frame.proofs.LineKinds.{no_heading_length}
-use Rattle.product_decoder.specs.Feeding.{Parts, onto, has_heading, part, products_in, IsQuiet, IsPlain, IsHeaded, Keeps, ComesFirst, IsHeld, IsFound, IsNotFound}
+use Rattle.product_decoder.specs.Feeding.{Parts, onto, has_heading, part, products_in, IsQuiet, IsPlain, IsHeaded, Keeps, ComesFirst, IsHeld, IsFound, IsNotFound, Split}
 use Rattle.product_decoder.specs.Holding.{IsTrimmed, IsOne, IsBegun, Moves, TakesWhole, TakesLast}
 use Rattle.product_decoder.proofs.Parting.{grafted, part_behind, plain_none, plain_more, headed_more, quiet_line}
 
@@ -22,14 +23,6 @@ within bytes s t = slice_range bytes s t
 
 range_none : (bytes : List ℕ) (s : ℕ) → within bytes s s ≡ []
 range_none bytes s = let e : s - s ≡ 0 = omega arith in ap (λ (n : ℕ). take n (drop s bytes)) e
-
-pub range_more : (s : List ℕ) (start at : ℕ) → start ≤ at → at < length s → slice_range s start (at + 1) ≡ slice_range s start at ++ get_or s at 0 ∷ []
-range_more s start at le lt =
-    let e : at + 1 - start ≡ (at - start) + 1 = omega arith in
-    let inside : at - start < length (drop start s) = omega (arith, length-drop start s) in
-    let place : start + (at - start) ≡ at = omega arith in
-    let item : get_or (drop start s) (at - start) 0 ≡ get_or s at 0 = get_or-drop start s (at - start) 0 ∙ ap (λ (k : ℕ). get_or s k 0) place in
-    rw e (take_more (drop start s) (at - start) 0 inside ∙ ap (λ (c : ℕ). take (at - start) (drop start s) ++ c ∷ []) item)
 
 pub range_join : (bytes : List ℕ) (s m t : ℕ) → s ≤ m → m ≤ t → within bytes s t ≡ within bytes s m ++ within bytes m t
 range_join bytes s m t le more =
@@ -109,7 +102,7 @@ scan_begun bytes from looked le quiet = record {
 }
 
 line_is : (bytes : List ℕ) (start at : ℕ) → start ≤ at → at < length bytes → (get_or bytes at 0 == 10) ≡ true → within bytes start (at + 1) ≡ within bytes start at ++ 10 ∷ []
-line_is bytes start at le lt e = range_more bytes start at le lt ∙ ap (λ (c : ℕ). within bytes start at ++ c ∷ []) (eqb-true (get_or bytes at 0) 10 e)
+line_is bytes start at le lt e = group_more bytes start at le lt ∙ ap (λ (c : ℕ). within bytes start at ++ c ∷ []) (eqb-true (get_or bytes at 0) 10 e)
 
 -- bytes that end no line
 scan_more : (bytes : List ℕ) (from start at k : ℕ) → Scanned bytes from start at → IsQuiet (take k (drop at bytes)) → Scanned bytes from start (at + k)
@@ -219,13 +212,6 @@ comes_first text rest h b more = ap products_in (append_assoc text rest more) �
 
 -- a text is whole lines and one that is not
 
-pub record Split (bytes : List ℕ) : Type 0 where
-  pub lines : List ℕ
-  pub line : List ℕ
-  pub parts : bytes ≡ lines ++ line
-  pub whole : are_ended lines ≡ true
-  pub quiet : IsQuiet line
-
 split_by : (c : ℕ) (bytes : List ℕ) (s : Split bytes) (b : Bool) (lines : List ℕ) → s.lines ≡ lines → (c == 10) ≡ b → Split (c ∷ bytes)
 split_by c bytes s true lines is e = record {
   lines = c ∷ s.lines;
@@ -263,11 +249,7 @@ pub waits_quiet : (lead rest : List ℕ) → IsPlain lead → IsQuiet rest → T
 waits_quiet lead rest p quiet =
     let none : products_in lead ≡ [] = ap (λ (q : Parts). q.texts) p.none in (
       record {
-        lines = lead;
-        line = rest;
-        parts = refl;
-        whole = p.ended;
-        quiet = quiet;
+        split = record { lines = lead; line = rest; parts = refl; whole = p.ended; quiet = quiet };
         one = rw none (omega arith);
         kept = ap (λ (texts : List (List ℕ)). concat texts ++ rest) (sym none);
       },
@@ -283,11 +265,13 @@ waits_one lead rest p one =
     let line = one.1 in
     let texts = headed_products lead lines p one.2 in (
       record {
-        lines = lead ++ lines;
-        line = line;
-        parts = ap (λ (xs : List ℕ). lead ++ xs) one.4 ∙ sym (append_assoc lead lines line);
-        whole = ends_append 10 lead lines p.ended (one.2).ended;
-        quiet = one.3;
+        split = record {
+          lines = lead ++ lines;
+          line = line;
+          parts = ap (λ (xs : List ℕ). lead ++ xs) one.4 ∙ sym (append_assoc lead lines line);
+          whole = ends_append 10 lead lines p.ended (one.2).ended;
+          quiet = one.3;
+        };
         one = rw texts (omega arith);
         kept = one.4 ∙ ap (λ (xs : List ℕ). xs ++ line) (sym (append-nil lines)) ∙ ap (λ (all : List (List ℕ)). concat all ++ line) (sym texts);
       },
@@ -315,11 +299,13 @@ gives_whole lead text rest p h b =
     ∙ given text lines h (ap (λ (xs : List ℕ). (part true xs).lead) (sym (append-nil lines)) ∙ begun_none lines [] begun) in
     let ended : are_ended (text ++ lines) ≡ true = ends_append 10 text lines h.ended (ends_append 10 b.0 s.lines (b.2).ended s.whole) in (
       record {
-        lines = lead ++ (text ++ lines);
-        line = s.line;
-        parts = ap (λ (xs : List ℕ). lead ++ (text ++ xs)) (b.3 ∙ ap (λ (xs : List ℕ). b.0 ++ xs) s.parts ∙ sym (append_assoc b.0 s.lines s.line)) ∙ ap (λ (xs : List ℕ). lead ++ xs) (sym (append_assoc text lines s.line)) ∙ sym (append_assoc lead (text ++ lines) s.line);
-        whole = ends_append 10 lead (text ++ lines) p.ended ended;
-        quiet = s.quiet;
+        split = record {
+          lines = lead ++ (text ++ lines);
+          line = s.line;
+          parts = ap (λ (xs : List ℕ). lead ++ (text ++ xs)) (b.3 ∙ ap (λ (xs : List ℕ). b.0 ++ xs) s.parts ∙ sym (append_assoc b.0 s.lines s.line)) ∙ ap (λ (xs : List ℕ). lead ++ xs) (sym (append_assoc text lines s.line)) ∙ sym (append_assoc lead (text ++ lines) s.line);
+          whole = ends_append 10 lead (text ++ lines) p.ended ended;
+          quiet = s.quiet;
+        };
         two = rw (all, later) (omega arith);
       },
       (λ more. trimmed_keeps lead (text ++ rest) p more ∙ comes_first text rest h b more),

@@ -1,5 +1,5 @@
 -- The steps of each event by zone are the steps of events in zones: a step put among those of its event is put among all.
-use Rattle.std.proofs.Common.{◌≡◌, ◌∙◌, ◌&&◌, not, ℕ, List, [], ◌∷◌, ◌++◌, Bool, true, false, cond, fold, map, is_none, Ordering, Less, Equal, Greater, Option, Some, unwrap_or, append_assoc, append-nil, refl, ap, sym, subst}
+use Rattle.std.proofs.Common.{◌≡◌, ◌∙◌, ℕ, List, [], ◌∷◌, ◌++◌, Bool, true, false, cond, fold, map, Ordering, Less, Equal, Greater, Option, Some, unwrap_or, append_assoc, append-nil, refl, ap, sym, subst}
 use Rattle.std.proofs.lemmas.Cmp.{tied_itself}
 use Rattle.std.proofs.lemmas.List.{map-append}
 use Rattle.std.proofs.lemmas.List.Sums.{fold-append}
@@ -13,7 +13,8 @@ use Rattle.hazard_types.specs.Places.{Place, by_place}
 use Rattle.hazard_types.specs.declared.hazard.Event.{Event}
 use Rattle.hazard_types.specs.declared.line.Line.{Line}
 use Rattle.hazard_types.proofs.OrderLaws.{by_event_total, by_event_ties}
-use Rattle.event_life.specs.Products.{is_routine, lawful_of}
+use Rattle.event_life.specs.Products.{lawful_of}
+use Rattle.event_life.proofs.AppendLemmas.{lawful_of-append}
 use Rattle.row_index.proofs.Tests.{insert-sorted}
 use Rattle.row_index.specs.declared.verdicts.Run.{Run}
 use Rattle.row_index.specs.declared.verdicts.Verdict.{Verdict}
@@ -168,17 +169,9 @@ ascending_put e es new zones up is =
 
 -- the lines of a run
 
-lawful_both : (xs ys : List Judged) → lawful_of (xs ++ ys) ≡ lawful_of xs ++ lawful_of ys
-lawful_both [] ys = refl
-lawful_both (x ∷ xs) ys = by_test (not (is_routine x.0.action) && is_none x.1) (lawful_both xs ys)
-  where
-    by_test : (b : Bool) → lawful_of (xs ++ ys) ≡ lawful_of xs ++ lawful_of ys → cond b (x.0 ∷ lawful_of (xs ++ ys)) (lawful_of (xs ++ ys)) ≡ cond b (x.0 ∷ lawful_of xs) (lawful_of xs) ++ lawful_of ys
-    by_test true later = ap (λ (lines : List Line). x.0 ∷ lines) later
-    by_test false later = later
-
 -- lines that go before others
 lines_both : (issue : ℕ) (steps : Steps) (xs ys : List Judged) → with_lines issue steps (xs ++ ys) ≡ with_lines issue (with_lines issue steps xs) ys
-lines_both issue steps xs ys = ap (λ (lines : List Line). fold (with_line issue) steps lines) (lawful_both xs ys) ∙ fold-append (with_line issue) steps (lawful_of xs) (lawful_of ys)
+lines_both issue steps xs ys = ap (λ (lines : List Line). fold (with_line issue) steps lines) (lawful_of-append xs ys) ∙ fold-append (with_line issue) steps (lawful_of xs) (lawful_of ys)
 
 pub runs_told : (issue : ℕ) (steps : Steps) (runs : List Run) → with_runs issue steps runs ≡ with_lines issue steps (expand runs)
 runs_told issue steps [] = refl

@@ -1,5 +1,5 @@
 -- What the product last taken did is what the last of the products does.
-use Rattle.std.proofs.Common.{◌≡◌, ◌∙◌, ℕ, ◌-◌, List, [], ◌∷◌, ◌++◌, length, fold, Option, Some, refl, sym, ap, subst, arith}
+use Rattle.std.proofs.Common.{◌≡◌, ◌∙◌, ℕ, ◌-◌, List, [], ◌∷◌, ◌++◌, length, fold, Option, Some, Result, IfOk, refl, sym, ap, subst, arith}
 use Rattle.std.specs.List.{slice_get}
 use Rattle.hazard_types.specs.declared.codes.Class.{Class}
 use Rattle.hazard_types.specs.declared.line.Line.{Line}
@@ -9,6 +9,7 @@ use Rattle.event_life.specs.Products.{Product, lawful_of, rows_with, rows_of}
 use Rattle.product_decoder.specs.Runs.{Taken}
 use Rattle.product_decoder.specs.declared.types.Opening.{Opening}
 use Rattle.product_decoder.specs.Openings.{openings_in, lawful_lines, openings_with, lawful_from, last_lawful, last_from, last_openings, lawful_taken, openings_taken}
+use Rattle.product_decoder.specs.ReaderModel.{Reading}
 use Rattle.product_decoder.specs.Takings.{product_taken, products_taken, AreJudged, IsRead}
 
 module _ (office : List ℕ) (class : Class) where
@@ -29,6 +30,12 @@ module _ (office : List ℕ) (class : Class) where
 
   pub openings_read : (held : Option (List Row)) (taken : List Taken) → IsRead office class held taken → openings_taken [] taken ≡ last_openings (products_taken office class taken)
   openings_read held taken h = openings_told [] [] taken h.judged
+
+-- what is found of the product last taken, said of the products that were read
+pub told_last : {X E : Type 0} (found : Result (List X) E) (of_taken : List Taken → List X) (of_read : Reading → List X) (slice taken : List Taken) (inside view : Reading)
+    → slice ≡ taken → inside ≡ view → of_taken taken ≡ of_read inside → IfOk found (λ all. all ≡ of_taken slice) → IfOk found (λ all. all ≡ of_read view)
+told_last {X} found of_taken of_read slice taken inside view slice_is view_is read_is is =
+    subst (λ (wanted : List X). IfOk found (λ all. all ≡ wanted)) (ap of_taken slice_is ∙ read_is ∙ ap of_read view_is) is
 
 -- one product more
 

@@ -17,11 +17,11 @@ use Rattle.hazard_types.proofs.Equality.{class_one, hazard_one}
 use Rattle.event_life.specs.declared.life.Breach.{Breach}
 use Rattle.event_life.specs.Lives.{judged_product}
 use Rattle.event_life.specs.Periods.{keeps_open}
-use Rattle.event_life.specs.Products.{later_event, going_in, event_of_issue, is_new, event_of, end_of, line_of, lines_of, judged_from}
+use Rattle.event_life.specs.Products.{Product, later_event, going_in, event_of_issue, is_new, event_of, end_of, line_of, lines_of, judged_from}
 use Rattle.product_decoder.specs.Runs.{Taken}
 use Rattle.product_decoder.specs.declared.types.Decoded.{Decoded}
 use Rattle.product_decoder.specs.declared.types.ZonePair.{ZonePair}
-use Rattle.product_decoder.specs.ReaderModel.{is_by, zone_line_of_pair, said_by, product_of}
+use Rattle.product_decoder.specs.ReaderModel.{Reading, is_by, zone_line_of_pair, said_by, product_of}
 use Rattle.product_decoder.specs.Takings.{minute_of, said_in, product_taken, product_judged}
 
 -- the event of a line has the hazard and number of its text
@@ -117,3 +117,16 @@ module _ (office : List ℕ) (class : Class) where
   -- which are judged as its own
   pub judged_own : (rows : List Row) (d : Decoded) (judged : List (Line × Option Breach)) → judged ≡ judged_product rows (product_of office class d) → judged ≡ judged_product rows (product_judged office class d.issue judged)
   judged_own rows d judged is = is ∙ ap (judged_product rows) (sym (judged_told rows d judged is))
+
+-- what is judged by the rows of a reader is what its product is judged as, and the product comes behind those before
+pub kept_judged : (rows : List Row) (d : Decoded) (judged : List (Line × Option Breach)) (inside view : Reading) → inside ≡ view → judged ≡ judged_product rows (product_of inside.office inside.class d)
+    → judged ≡ judged_product rows (product_judged view.office view.class d.issue judged)
+kept_judged rows d judged inside view is told =
+    judged_own inside.office inside.class rows d judged told ∙ ap (λ (r : Reading). judged_product rows (product_judged r.office r.class d.issue judged)) is
+
+pub kept_next : (rows : List Row) (d : Decoded) (judged : List (Line × Option Breach)) (inside next was : Reading) → inside ≡ next → next ≡ was → judged ≡ judged_product rows (product_of inside.office inside.class d)
+    → next.products ++ product_judged next.office next.class d.issue judged ∷ [] ≡ was.products ++ product_of was.office was.class d ∷ []
+kept_next rows d judged inside next was is same told =
+    let own = told ∙ ap (λ (r : Reading). judged_product rows (product_of r.office r.class d)) (is ∙ same) in
+    ap (λ (r : Reading). r.products ++ product_judged r.office r.class d.issue judged ∷ []) same
+    ∙ ap (λ (p : Product). was.products ++ p ∷ []) (judged_told was.office was.class rows d judged own)

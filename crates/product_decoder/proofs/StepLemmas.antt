@@ -1,73 +1,31 @@
 -- Steps put at their event and zone are found there, product by product.
-use Rattle.std.proofs.Common.{◌≡◌, ◌∙◌, ◌&&◌, ℕ, List, [], ◌∷◌, ◌++◌, Bool, true, false, cond, not, Ordering, Less, Equal, Greater, Option, Some, unwrap_or, append_assoc, append-nil, map, fold, refl, ap, sym, subst}
+use Rattle.std.proofs.Common.{◌≡◌, ◌∙◌, ◌&&◌, ℕ, List, [], ◌∷◌, ◌++◌, Bool, true, false, cond, not, Ordering, Less, Equal, Greater, Option, append_assoc, append-nil, map, fold, refl, ap, sym, subst}
 use Rattle.std.proofs.lemmas.Bool.{and_parts, false_from_ne_true}
-use Rattle.std.proofs.lemmas.Cmp.{tied_itself, then_total, on_total}
+use Rattle.std.proofs.lemmas.Cmp.{then_total, on_total}
+use Rattle.std.proofs.lemmas.Map.Lookups.{exact_pairs}
 use Rattle.std.specs.BTreeMap.{insert_entry, is_at}
 use Rattle.std.specs.BTreeSet.{insert_key}
 use Rattle.std.specs.Cmp.{IsTotalOrder}
-use Rattle.std.specs.Map.{keys_of, lookup}
+use Rattle.std.specs.Map.{keys_of}
 use Rattle.std.specs.Option.{is_none}
-use Rattle.std.specs.Ordering.{match_ordering, ordering_then, is_eq}
+use Rattle.std.specs.Ordering.{match_ordering}
 use Rattle.hazard_types.specs.Orders.{by_event}
+use Rattle.hazard_types.specs.Places.{Place, by_place}
 use Rattle.hazard_types.specs.Same.{same_event}
+use Rattle.hazard_types.specs.declared.hazard.Event.{Event}
 use Rattle.hazard_types.specs.declared.line.Line.{Line}
 use Rattle.hazard_types.proofs.Equality.{event_one, event_itself, zone_one, zone_itself}
 use Rattle.hazard_types.proofs.OrderLaws.{by_event_total, by_event_ties, by_place_total, by_place_ties}
 use Rattle.event_life.specs.declared.life.Breach.{Breach}
 use Rattle.event_life.specs.Lives.{steps_of}
 use Rattle.event_life.specs.Products.{is_routine, concerns, lawful_of}
+use Rattle.row_index.proofs.Lists.{at_other, at_same}
+use Rattle.row_index.proofs.Tests.{at_one}
 use Rattle.product_decoder.specs.Runs.{Taken}
 use Rattle.product_decoder.specs.declared.types.Track.{Track}
 use Rattle.product_decoder.specs.Lives.{Living, by_living}
 use Rattle.product_decoder.specs.Steps.{Step, Steps, steps_at, living_of, with_line, with_product, steps_of_all, track_at}
 use Rattle.product_decoder.specs.Takings.{steps_in, track_in}
-
--- what is put at a key is found at that key alone
-
-module _ {K : Type 0} (cmp : K → K → Ordering) (total : IsTotalOrder cmp) (ties : (a b : K) → cmp a b ≡ Equal → a ≡ b) where
-  tied_to : (o : Ordering) → is_eq o ≡ true → o ≡ Equal
-  tied_to Less h = cc
-  tied_to Equal h = refl
-  tied_to Greater h = cc
-
-  pub at_one : (q k : K) → is_at (cmp q) k ≡ true → q ≡ k
-  at_one q k h = ties q k (tied_to (cmp q k) h)
-
-  at_itself : (k : K) → is_at (cmp k) k ≡ true
-  at_itself k = rw (tied_itself total k) refl
-
-module _ {K V : Type 0} (cmp : K → K → Ordering) (total : IsTotalOrder cmp) (ties : (a b : K) → cmp a b ≡ Equal → a ≡ b) where
-  abbrev at : List (K × List V) → K → List V
-  at es k = unwrap_or (lookup (is_at (cmp k)) es) []
-
-  abbrev or_none : Option (List V) → List V
-  or_none o = unwrap_or o []
-
-  same_by : (o : Ordering) (k : K) (e : K × List V) (es : List (K × List V)) (w : List V) → cmp k e.0 ≡ o
-      → at (insert_entry cmp es k w) k ≡ w → at (match_ordering o ((k, w) ∷ e ∷ es) ((e.0, w) ∷ es) (e ∷ insert_entry cmp es k w)) k ≡ w
-  same_by Less k e es w h later = rw (at_itself cmp total ties k) refl
-  same_by Equal k e es w h later = rw h refl
-  same_by Greater k e es w h later = rw h later
-
-  pub at_same : (k : K) (es : List (K × List V)) (w : List V) → at (insert_entry cmp es k w) k ≡ w
-  at_same k [] w = rw (at_itself cmp total ties k) refl
-  at_same k (e ∷ es) w = same_by (cmp k e.0) k e es w refl (at_same k es w)
-
-  other_first : (b : Bool) (xs : List V) (o p : Option (List V)) → or_none o ≡ or_none p → or_none (cond b (Some xs) o) ≡ or_none (cond b (Some xs) p)
-  other_first true xs o p h = refl
-  other_first false xs o p h = h
-
-  other_by : (o : Ordering) (q k : K) (e : K × List V) (es : List (K × List V)) (w : List V) → cmp k e.0 ≡ o → is_at (cmp q) k ≡ false
-      → at (insert_entry cmp es k w) q ≡ at es q → at (match_ordering o ((k, w) ∷ e ∷ es) ((e.0, w) ∷ es) (e ∷ insert_entry cmp es k w)) q ≡ at (e ∷ es) q
-  other_by Less q k e es w h f later = rw f refl
-  other_by Equal q k e es w h f later =
-      let g : is_at (cmp q) e.0 ≡ false = subst (λ (y : K). is_at (cmp q) y ≡ false) (ties k e.0 h) f in
-      rw g refl
-  other_by Greater q k e es w h f later = other_first (is_at (cmp q) e.0) e.1 (lookup (is_at (cmp q)) (insert_entry cmp es k w)) (lookup (is_at (cmp q)) es) later
-
-  pub at_other : (q k : K) (es : List (K × List V)) (w : List V) → is_at (cmp q) k ≡ false → at (insert_entry cmp es k w) q ≡ at es q
-  at_other q k [] w f = rw f refl
-  at_other q k (e ∷ es) w f = other_by (cmp k e.0) q k e es w refl f (at_other q k es w f)
 
 -- the keys, with one that is put
 
@@ -87,17 +45,8 @@ module _ {K V : Type 0} (cmp : K → K → Ordering) where
 pub by_living_total : IsTotalOrder by_living
 by_living_total = then_total (on_total (λ (l : Living). l.event) by_event_total) (on_total (λ (l : Living). l.zone) by_place_total)
 
-both_tied : (o p : Ordering) → ordering_then o p ≡ Equal → (o ≡ Equal) × (p ≡ Equal)
-both_tied Less p h = cc
-both_tied Equal p h = (refl, h)
-both_tied Greater p h = cc
-
 pub by_living_ties : (a b : Living) → by_living a b ≡ Equal → a ≡ b
-by_living_ties a b h =
-    let p = both_tied (by_event a.event b.event) _ h in
-    let event_is = by_event_ties a.event b.event p.0 in
-    let zone_is = by_place_ties a.zone b.zone p.1 in
-    λ i. record { event = event_is i; zone = zone_is i }
+by_living_ties a b h = ap (λ (p : Event × Place). record { event = p.0; zone = p.1 }) (exact_pairs by_event by_place by_event_ties by_place_ties (a.event, a.zone) (b.event, b.zone) h)
 
 spoken : (line : Line) (l : Living) → concerns l.event l.zone line ≡ true → living_of line ≡ l
 spoken line l h =

@@ -61,24 +61,24 @@ Keeps old new = (more : List ℕ) → products_in (old ++ more) ≡ products_in 
 abbrev pub ComesFirst : List ℕ → List ℕ → List ℕ → Type 0
 ComesFirst old text new = (more : List ℕ) → products_in (old ++ more) ≡ text ∷ products_in (new ++ more)
 
--- The whole lines of a text have two heading lines or more, so that the first product is finished.
-pub record IsFinished (rest : List ℕ) : Type 0 where
+-- A text is whole lines, and behind them one that has not ended.
+pub record Split (text : List ℕ) : Type 0 where
   pub lines : List ℕ
   pub line : List ℕ
-  pub parts : rest ≡ lines ++ line
+  pub parts : text ≡ lines ++ line
   pub whole : are_ended lines ≡ true
   pub quiet : IsQuiet line
-  pub two : 2 ≤ length (products_in lines)
+
+-- The whole lines of a text have two heading lines or more, so that the first product is finished.
+pub record IsFinished (rest : List ℕ) : Type 0 where
+  pub split : Split rest
+  pub two : 2 ≤ length (products_in split.lines)
 
 -- They have one at most, and what is kept is the text from its heading line on, or the line that is not whole.
 pub record IsWaiting (rest left : List ℕ) : Type 0 where
-  pub lines : List ℕ
-  pub line : List ℕ
-  pub parts : rest ≡ lines ++ line
-  pub whole : are_ended lines ≡ true
-  pub quiet : IsQuiet line
-  pub one : length (products_in lines) ≤ 1
-  pub kept : left ≡ concat (products_in lines) ++ line
+  pub split : Split rest
+  pub one : length (products_in split.lines) ≤ 1
+  pub kept : left ≡ concat (products_in split.lines) ++ split.line
 
 -- a product was given: before the end one that is finished; less is kept then
 abbrev pub Gives : Fed → List ℕ → Fed → Type 0

@@ -1,7 +1,6 @@
 -- A pair is found by its lines.
-use Rattle.std.proofs.Common.{◌≡◌, ℕ, true, List, [], ◌∷◌, ◌++◌, length, refl, ap, sym, ◌∙◌, arith, subst, append_assoc, Option, Some, None, codes}
-use Rattle.std.specs.Prelude.{option_map}
-use Rattle.std.specs.List.{slice_range}
+use Rattle.std.proofs.Common.{◌≡◌, ℕ, true, List, [], ◌∷◌, ◌++◌, length, refl, ap, sym, ◌∙◌, arith, subst, append_assoc, Option, Some, None}
+use Rattle.std.specs.Prelude.{option_map, slice_index}
 use Rattle.std.proofs.lemmas.Bool.{le-leb, eq-eqb}
 use Rattle.hazard_types.specs.declared.line.Vtec.{Vtec}
 use Rattle.hazard_types.specs.declared.line.Flood.{Flood}
@@ -18,15 +17,15 @@ use Rattle.product_frame.specs.declared.frame.Pair.{Pair}
 
 -- ---- single lines
 
-slashed : (line : List ℕ) → slice_range line 0 1 ≡ codes "/" → has_slash line ≡ true
-slashed [] h = absurd (cc)
-slashed (c ∷ line) h = let same : c ≡ 47 = cc in rw (le-leb 1 (length (c ∷ line)) (omega arith), eq-eqb c 47 same) refl
+slashed : (line : List ℕ) → slice_index line 0 ≡ 47 → has_slash line ≡ true
+slashed [] h = let none : 0 ≡ 47 = h in absurd (omega (arith, none))
+slashed (c ∷ line) h = let same : c ≡ 47 = h in rw (le-leb 1 (length (c ∷ line)) (omega arith), eq-eqb c 47 same) refl
 
 pub vtec_has_slash : (line : List ℕ) (v : Vtec) → IsVtec line v → has_slash line ≡ true
-vtec_has_slash line v is = slashed line is.separated.before_class
+vtec_has_slash line v is = slashed line (ap (λ (t : List ℕ). slice_index t 0) is.separated)
 
 hvtec_has_slash : (line : List ℕ) (h : Flood) → IsHvtec line h → has_slash line ≡ true
-hvtec_has_slash line h is = slashed line is.separated.before_location
+hvtec_has_slash line h is = slashed line (ap (λ (t : List ℕ). slice_index t 0) is.separated)
 
 pub no_hvtec : (line : List ℕ) → ((h : Flood) → IsHvtec line h → ⊥) → hvtec_of line ≡ None
 no_hvtec line none = by (hvtec_of line) refl

@@ -17,7 +17,7 @@ use Rattle.product_frame.specs.Events.{pair_of}
 use Rattle.product_frame.proofs.Events.{no_slash_no_hvtec, none_paired, pair_back, one_pair}
 use Rattle.product_frame.specs.Frames.{line_at}
 use Rattle.product_frame.specs.Walking.{at_outside, open_by, at_pairs, at_rest, paired, next_at, ahead, step, walk}
-use Rattle.product_frame.specs.Grammar.{AreEvents, LacksFlood, AreRest, HasNoSlash}
+use Rattle.product_frame.specs.Grammar.{AreEvents, LacksFlood, AreRest}
 use Rattle.product_frame.specs.Faults.{BeginsWith, Opens, StopsAtVtec, HasNoEnd, IsFaulty, IsFirstFault}
 use Rattle.product_frame.specs.declared.frame.FrameSegment.{FrameSegment}
 use Rattle.product_frame.specs.declared.frame.Pair.{Pair}
@@ -26,7 +26,8 @@ use Rattle.product_frame.specs.declared.frame.FrameFault.TheVariants.{NoSegmentE
 use Rattle.product_frame.specs.declared.walk.Stage.{Stage}
 use Rattle.product_frame.specs.declared.walk.Stage.TheVariants.{Outside, Pairs, Rest}
 use Rattle.product_frame.proofs.Segments.{state}
-use Rattle.product_frame.proofs.Found.{Out, made, segment_more, no_lines}
+use Rattle.product_frame.proofs.Found.{Out}
+use Rattle.product_frame.proofs.SegmentEnds.{RestEnds, SegmentEnds, made, end_here, end_later, only_rest, pair_more, ugc_more, segment_here, segment_more}
 use Rattle.product_frame.proofs.Starts.{AreStarts, ends_fit}
 
 never : (out : Out) (x : FrameFault) → ◌≡◌ {A = Result Out FrameFault} (Ok out) (Err x) → ⊥
@@ -35,30 +36,18 @@ never out x e = cc e
 same_fault : (x y : FrameFault) → ◌≡◌ {A = Result Out FrameFault} (Err x) (Err y) → y ≡ x
 same_fault x y e = let h : x ≡ y = cc e in sym h
 
+no_lines : (xs : List ℕ) → length xs ≡ 0 → xs ≡ []
+no_lines [] h = refl
+no_lines (x ∷ xs) h = absurd (omega arith)
+
 -- a segment that is whole, and then a fault
 pub record Passes (bytes lines : List ℕ) (left total : ℕ) (x : FrameFault) : Type 0 where
-  pub ugc : List ℕ
-  pub events : List ℕ
-  pub pairs : List Pair
-  pub others : List ℕ
-  pub end : ℕ
-  pub later : List ℕ
-  pub whole : lines ≡ ugc ++ (events ++ (others ++ end ∷ later))
-  pub size : length ugc ≡ left
-  pub spelled : AreEvents bytes events pairs
-  pub behind : HasNoSlash bytes (others ++ end ∷ later)
-  pub rest : AreRest bytes others
-  pub ended : is_end (line_at bytes end) ≡ true
-  pub then : IsFirstFault bytes later total x
+  pub ends : SegmentEnds bytes lines left
+  pub then : IsFirstFault bytes ends.rest.later total x
 
 pub record RestPasses (bytes lines : List ℕ) (total : ℕ) (x : FrameFault) : Type 0 where
-  pub others : List ℕ
-  pub end : ℕ
-  pub later : List ℕ
-  pub whole : lines ≡ others ++ end ∷ later
-  pub rest : AreRest bytes others
-  pub ended : is_end (line_at bytes end) ≡ true
-  pub then : IsFirstFault bytes later total x
+  pub ends : RestEnds bytes lines
+  pub then : IsFirstFault bytes ends.later total x
 
 pub record Stops (bytes lines : List ℕ) (left total : ℕ) (x : FrameFault) : Type 0 where
   pub number : ℕ
@@ -90,15 +79,15 @@ first_more bytes lines s total x b f = by f.segments f.before
     by (g ∷ segments) h = record { segments = g ∷ segments; later = f.later; outside = f.outside; start = f.start; behind = f.behind; before = (h.0, segment_more bytes lines s g h.0 b h.1, h.2); whole = f.whole; passed = f.passed; begun = f.begun; fault = f.fault }
 
 rest_end : (bytes lines : List ℕ) (s first total : ℕ) (x : FrameFault) → is_end (line_at bytes s) ≡ true → IsFirstFault bytes lines total x → RestFault bytes (s ∷ lines) first total x
-rest_end bytes lines s first total x e f = inr (record { others = []; end = s; later = lines; whole = refl; rest = tt; ended = e; then = f })
+rest_end bytes lines s first total x e f = inr (record { ends = end_here bytes lines s e; then = f })
 
 rest_more : (bytes lines : List ℕ) (s first total : ℕ) (x : FrameFault) → is_end (line_at bytes s) ≡ false → RestFault bytes lines first total x → RestFault bytes (s ∷ lines) first total x
 rest_more bytes lines s first total x e (inl h) = inl (h.0, (e, h.1))
-rest_more bytes lines s first total x e (inr r) = inr (record { others = s ∷ r.others; end = r.end; later = r.later; whole = ap (λ (l : List ℕ). s ∷ l) r.whole; rest = (e, r.rest); ended = r.ended; then = r.then })
+rest_more bytes lines s first total x e (inr r) = inr (record { ends = end_later bytes lines s e r.ends; then = r.then })
 
 no_event : (bytes lines : List ℕ) (s first total : ℕ) (x : FrameFault) → has_slash (line_at bytes s) ≡ false → RestFault bytes (s ∷ lines) first total x → PairsFault bytes (s ∷ lines) 0 first total x
 no_event bytes lines s first total x no_slash (inl h) = inl (h.0, record { ugc = []; events = []; pairs = []; others = s ∷ lines; whole = refl; size = refl; spelled = refl; behind = no_slash; rest = h.1 })
-no_event bytes lines s first total x no_slash (inr r) = inr (inr (record { ugc = []; events = []; pairs = []; others = r.others; end = r.end; later = r.later; whole = r.whole; size = refl; spelled = refl; behind = subst (HasNoSlash bytes) r.whole no_slash; rest = r.rest; ended = r.ended; then = r.then }))
+no_event bytes lines s first total x no_slash (inr r) = inr (inr (record { ends = only_rest bytes lines s no_slash r.ends; then = r.then }))
 
 -- the line at which pairs stop is no H-VTEC line for the pair before it
 stops_behind : (bytes lines next events left more : List ℕ) (at : ℕ) (p : Pair) (pairs : List Pair) → hvtec_of (next_at bytes lines) ≡ p.flood → length next ≡ ahead p.flood → lines ≡ next ++ (events ++ left) → left ≡ at ∷ more → AreEvents bytes events pairs →
@@ -132,9 +121,7 @@ one_event bytes lines s first total x p is (inr (inl t)) =
       sum = t.sum;
       stops = record { ugc = []; events = b.events; pairs = p ∷ n.pairs; at = n.at; more = n.more; left_are = n.left_are; whole = b.whole; size = refl; spelled = b.spelled; slash = n.slash; no_vtec = n.no_vtec; no_flood = no_flood };
     }))
-one_event bytes lines s first total x p is (inr (inr n)) =
-    let b = one_pair bytes lines n.ugc n.events (n.others ++ n.end ∷ n.later) s p n.pairs is n.size n.whole n.spelled in
-    inr (inr (record { ugc = []; events = b.events; pairs = p ∷ n.pairs; others = n.others; end = n.end; later = n.later; whole = b.whole; size = refl; spelled = b.spelled; behind = n.behind; rest = n.rest; ended = n.ended; then = n.then }))
+one_event bytes lines s first total x p is (inr (inr n)) = inr (inr (record { ends = pair_more bytes lines s p is n.ends; then = n.then }))
 
 bad_event : (bytes lines : List ℕ) (s first number total : ℕ) (x : FrameFault) → x ≡ BadVtec number → number + (length lines + 1) ≡ total → has_slash (line_at bytes s) ≡ true → pair_of (line_at bytes s) (next_at bytes lines) ≡ None → PairsFault bytes (s ∷ lines) 0 first total x
 bad_event bytes lines s first number total x is sum slash none = inr (inl (record {
@@ -158,7 +145,7 @@ one_skipped bytes lines s k first total x (inr (inl t)) =
       sum = t.sum;
       stops = record { ugc = s ∷ n.ugc; events = n.events; pairs = n.pairs; at = n.at; more = n.more; left_are = n.left_are; whole = ap (λ (l : List ℕ). s ∷ l) n.whole; size = ap suc n.size; spelled = n.spelled; slash = n.slash; no_vtec = n.no_vtec; no_flood = n.no_flood };
     }))
-one_skipped bytes lines s k first total x (inr (inr n)) = inr (inr (record { ugc = s ∷ n.ugc; events = n.events; pairs = n.pairs; others = n.others; end = n.end; later = n.later; whole = ap (λ (l : List ℕ). s ∷ l) n.whole; size = ap suc n.size; spelled = n.spelled; behind = n.behind; rest = n.rest; ended = n.ended; then = n.then }))
+one_skipped bytes lines s k first total x (inr (inr n)) = inr (inr (record { ends = ugc_more bytes lines s k n.ends; then = n.then }))
 
 no_line : (bytes : List ℕ) (first total : ℕ) (x : FrameFault) → x ≡ NoSegmentEnd first → PairsFault bytes [] 0 first total x
 no_line bytes first total x is = inl (is, record { ugc = []; events = []; pairs = []; others = []; whole = refl; size = refl; spelled = refl; behind = tt; rest = tt })
@@ -188,40 +175,7 @@ begun_here bytes lines s number total x u b read fills sum f = by f
     by (inr (inl t)) = subst (IsFirstFault bytes (s ∷ lines) total) (sym t.is) (here bytes lines s total (BadVtec t.number) b (ends_in (take u.used (drop s bytes)), opens, t.from, t.stops, t.sum))
     by (inr (inr p)) =
         let then = p.then in
-        record {
-          segments = made u.zones u.expiry p.pairs ∷ then.segments;
-          later = then.later;
-          outside = then.outside;
-          start = then.start;
-          behind = then.behind;
-          before = (
-            p.later,
-            record {
-              outside = [];
-              start = s;
-              ugc = p.ugc;
-              events = p.events;
-              others = p.others;
-              end = p.end;
-              used = u.used;
-              whole = ap (λ (l : List ℕ). s ∷ l) p.whole;
-              passed = tt;
-              begun = b;
-              zones = read_is_ugc (drop s bytes) u read;
-              fills = fills;
-              more = p.size;
-              pairs = p.spelled;
-              behind = p.behind;
-              rest = p.rest;
-              ended = p.ended;
-            },
-            then.before,
-          );
-          whole = then.whole;
-          passed = then.passed;
-          begun = then.begun;
-          fault = then.fault;
-        }
+        record { segments = made u.zones u.expiry p.ends.pairs ∷ then.segments; later = then.later; outside = then.outside; start = then.start; behind = then.behind; before = (p.ends.rest.later, segment_here bytes lines s u b read fills p.ends, then.before); whole = then.whole; passed = then.passed; begun = then.begun; fault = then.fault }
 
 -- ---- the walk
 

@@ -1,5 +1,5 @@
 -- What was walked over has its segments in the grammar.
-use Rattle.std.proofs.Common.{◌≡◌, ℕ, zero, suc, ◌+◌, ◌-◌, ◌==◌, true, false, List, [], ◌∷◌, ◌++◌, length, take, drop, refl, ap, sym, ◌∙◌, arith, append_assoc, append-nil, subst, Option, Some, None, Result, Ok, Err, inl, inr}
+use Rattle.std.proofs.Common.{◌≡◌, ℕ, zero, suc, ◌+◌, ◌-◌, ◌==◌, true, false, List, [], ◌∷◌, ◌++◌, take, drop, refl, ap, sym, ◌∙◌, arith, append_assoc, append-nil, subst, Option, Some, None, Result, Ok, Err, inl, inr}
 use Rattle.std.proofs.lemmas.Bool.{cases_Bool, ne_eqb}
 use Rattle.hazard_types.specs.Given.{◌>>=◌}
 use Rattle.hazard_types.specs.Places.{Place}
@@ -7,20 +7,19 @@ use Rattle.hazard_types.specs.declared.calendar.DayStamp.{DayStamp}
 use Rattle.ugc_codes.specs.Reading.{ugc_of}
 use Rattle.ugc_codes.specs.declared.read.UgcRead.{UgcRead}
 use Rattle.ugc_codes.specs.declared.read.UgcFault.{UgcFault}
-use Rattle.ugc_codes.proofs.Lines.{read_is_ugc}
 use Rattle.product_frame.specs.Text.{line_of, is_empty, ends_in}
 use Rattle.product_frame.specs.Parts.{begins, has_slash, is_end}
 use Rattle.product_frame.specs.Events.{pair_of}
-use Rattle.product_frame.proofs.Events.{one_pair}
 use Rattle.product_frame.specs.declared.frame.Pair.{Pair}
 use Rattle.product_frame.specs.Frames.{line_at}
 use Rattle.product_frame.specs.Walking.{at_outside, open_by, at_pairs, at_rest, paired, next_at, ahead, step, walk}
-use Rattle.product_frame.specs.Grammar.{AreEvents, AreRest, HasNoSlash, IsSegment, AreSegments}
+use Rattle.product_frame.specs.Grammar.{AreSegments}
 use Rattle.product_frame.specs.declared.frame.FrameSegment.{FrameSegment}
 use Rattle.product_frame.specs.declared.frame.FrameFault.{FrameFault}
 use Rattle.product_frame.specs.declared.frame.FrameFault.TheVariants.{BadUgc, BadVtec, NoSegmentEnd}
 use Rattle.product_frame.specs.declared.walk.Stage.{Stage}
 use Rattle.product_frame.specs.declared.walk.Stage.TheVariants.{Outside, Pairs, Rest}
+use Rattle.product_frame.proofs.SegmentEnds.{RestEnds, SegmentEnds, made, end_here, end_later, only_rest, pair_more, ugc_more, segment_here, segment_more}
 use Rattle.product_frame.proofs.Segments.{state}
 
 abbrev pub Out : Type 0
@@ -32,36 +31,17 @@ never f out e = cc e
 same_out : (a b : Out) → ◌≡◌ {A = Result Out FrameFault} (Ok a) (Ok b) → a ≡ b
 same_out a b e = cc e
 
-abbrev pub made : List Place → DayStamp → List Pair → FrameSegment
-made zs d ps = record { zones = zs; expiry = d; pairs = ps }
-
 pub record InRest (bytes lines : List ℕ) (out gs : Out) (zs : List Place) (d : DayStamp) (ps : List Pair) : Type 0 where
-  pub others : List ℕ
-  pub end : ℕ
-  pub later : List ℕ
+  pub ends : RestEnds bytes lines
   pub segments : Out
-  pub whole : lines ≡ others ++ end ∷ later
-  pub rest : AreRest bytes others
-  pub ended : is_end (line_at bytes end) ≡ true
-  pub then : AreSegments bytes later segments
+  pub then : AreSegments bytes ends.later segments
   pub is : out ≡ gs ++ made zs d ps ∷ segments
 
 pub record InPairs (bytes lines : List ℕ) (out gs : Out) (zs : List Place) (d : DayStamp) (ps : List Pair) (left : ℕ) : Type 0 where
-  pub ugc : List ℕ
-  pub events : List ℕ
-  pub pairs : List Pair
-  pub others : List ℕ
-  pub end : ℕ
-  pub later : List ℕ
+  pub ends : SegmentEnds bytes lines left
   pub segments : Out
-  pub whole : lines ≡ ugc ++ (events ++ (others ++ end ∷ later))
-  pub more : length ugc ≡ left
-  pub spelled : AreEvents bytes events pairs
-  pub behind : HasNoSlash bytes (others ++ end ∷ later)
-  pub rest : AreRest bytes others
-  pub ended : is_end (line_at bytes end) ≡ true
-  pub then : AreSegments bytes later segments
-  pub is : out ≡ gs ++ made zs d (ps ++ pairs) ∷ segments
+  pub then : AreSegments bytes ends.rest.later segments
+  pub is : out ≡ gs ++ made zs d (ps ++ ends.pairs) ∷ segments
 
 pub record InNone (bytes lines : List ℕ) (out gs : Out) : Type 0 where
   pub segments : Out
@@ -76,27 +56,6 @@ Sound bytes lines out gs zs d ps Pairs left = InPairs bytes lines out gs zs d ps
 Sound bytes lines out gs zs d ps Rest zero = InRest bytes lines out gs zs d ps
 Sound bytes lines out gs zs d ps Rest (suc k) = Unit {0}
 
-pub segment_more : (bytes lines : List ℕ) (s : ℕ) (g : FrameSegment) (later : List ℕ) → begins (line_at bytes s) ≡ false → IsSegment bytes lines g later → IsSegment bytes (s ∷ lines) g later
-segment_more bytes lines s g later b is = record {
-  outside = s ∷ is.outside;
-  start = is.start;
-  ugc = is.ugc;
-  events = is.events;
-  others = is.others;
-  end = is.end;
-  used = is.used;
-  whole = ap (λ (xs : List ℕ). s ∷ xs) is.whole;
-  passed = (b, is.passed);
-  begun = is.begun;
-  zones = is.zones;
-  fills = is.fills;
-  more = is.more;
-  pairs = is.pairs;
-  behind = is.behind;
-  rest = is.rest;
-  ended = is.ended;
-}
-
 one_more : (bytes lines : List ℕ) (s : ℕ) (segments : Out) → begins (line_at bytes s) ≡ false → AreSegments bytes lines segments → AreSegments bytes (s ∷ lines) segments
 one_more bytes lines s [] b h = (b, h)
 one_more bytes lines s (g ∷ segments) b h = (h.0, segment_more bytes lines s g h.0 b h.1, h.2)
@@ -104,104 +63,24 @@ one_more bytes lines s (g ∷ segments) b h = (h.0, segment_more bytes lines s g
 -- a segment that begins here
 begun_here : (bytes lines : List ℕ) (out gs : Out) (s : ℕ) (u : UgcRead) → begins (line_at bytes s) ≡ true → ugc_of (drop s bytes) ≡ Ok u → is_empty (line_of (drop u.used (drop s bytes))) ≡ true →
     InPairs bytes lines out gs u.zones u.expiry [] (ends_in (take u.used (drop s bytes))) → InNone bytes (s ∷ lines) out gs
-begun_here bytes lines out gs s u b read fills p = record {
-  segments = made u.zones u.expiry p.pairs ∷ p.segments;
-  then = (
-    p.later,
-    record {
-      outside = [];
-      start = s;
-      ugc = p.ugc;
-      events = p.events;
-      others = p.others;
-      end = p.end;
-      used = u.used;
-      whole = ap (λ (xs : List ℕ). s ∷ xs) p.whole;
-      passed = tt;
-      begun = b;
-      zones = read_is_ugc (drop s bytes) u read;
-      fills = fills;
-      more = p.more;
-      pairs = p.spelled;
-      behind = p.behind;
-      rest = p.rest;
-      ended = p.ended;
-    },
-    p.then,
-  );
-  is = p.is;
-}
+begun_here bytes lines out gs s u b read fills p = record { segments = made u.zones u.expiry p.ends.pairs ∷ p.segments; then = (p.ends.rest.later, segment_here bytes lines s u b read fills p.ends, p.then); is = p.is }
 
 at_end : (bytes lines : List ℕ) (out gs : Out) (zs : List Place) (d : DayStamp) (ps : List Pair) (s : ℕ) → is_end (line_at bytes s) ≡ true → InNone bytes lines out (gs ++ made zs d ps ∷ []) → InRest bytes (s ∷ lines) out gs zs d ps
-at_end bytes lines out gs zs d ps s e n = record { others = []; end = s; later = lines; segments = n.segments; whole = refl; rest = tt; ended = e; then = n.then; is = n.is ∙ append_assoc gs (made zs d ps ∷ []) n.segments }
+at_end bytes lines out gs zs d ps s e n = record { ends = end_here bytes lines s e; segments = n.segments; then = n.then; is = n.is ∙ append_assoc gs (made zs d ps ∷ []) n.segments }
 
 not_end : (bytes lines : List ℕ) (out gs : Out) (zs : List Place) (d : DayStamp) (ps : List Pair) (s : ℕ) → is_end (line_at bytes s) ≡ false → InRest bytes lines out gs zs d ps → InRest bytes (s ∷ lines) out gs zs d ps
-not_end bytes lines out gs zs d ps s e r = record { others = s ∷ r.others; end = r.end; later = r.later; segments = r.segments; whole = ap (λ (xs : List ℕ). s ∷ xs) r.whole; rest = (e, r.rest); ended = r.ended; then = r.then; is = r.is }
+not_end bytes lines out gs zs d ps s e r = record { ends = end_later bytes lines s e r.ends; segments = r.segments; then = r.then; is = r.is }
 
 -- the events end here
 no_event : (bytes lines : List ℕ) (out gs : Out) (zs : List Place) (d : DayStamp) (ps : List Pair) (s : ℕ) → has_slash (line_at bytes s) ≡ false → InRest bytes (s ∷ lines) out gs zs d ps → InPairs bytes (s ∷ lines) out gs zs d ps 0
-no_event bytes lines out gs zs d ps s no_slash r = record {
-  ugc = [];
-  events = [];
-  pairs = [];
-  others = r.others;
-  end = r.end;
-  later = r.later;
-  segments = r.segments;
-  whole = r.whole;
-  more = refl;
-  spelled = refl;
-  behind = subst (HasNoSlash bytes) r.whole no_slash;
-  rest = r.rest;
-  ended = r.ended;
-  then = r.then;
-  is = r.is ∙ ap (λ (p : List Pair). gs ++ made zs d p ∷ r.segments) (sym (append-nil ps));
-}
-
-pub no_lines : (xs : List ℕ) → length xs ≡ 0 → xs ≡ []
-no_lines [] h = refl
-no_lines (x ∷ xs) h = absurd (omega arith)
+no_event bytes lines out gs zs d ps s no_slash r = record { ends = only_rest bytes lines s no_slash r.ends; segments = r.segments; then = r.then; is = r.is ∙ ap (λ (p : List Pair). gs ++ made zs d p ∷ r.segments) (sym (append-nil ps)) }
 
 one_event : (bytes lines : List ℕ) (out gs : Out) (zs : List Place) (d : DayStamp) (ps : List Pair) (s : ℕ) (v : Pair) → pair_of (line_at bytes s) (next_at bytes lines) ≡ Some v →
     InPairs bytes lines out gs zs d (ps ++ v ∷ []) (ahead v.flood) → InPairs bytes (s ∷ lines) out gs zs d ps 0
-one_event bytes lines out gs zs d ps s v is p =
-    let b = one_pair bytes lines p.ugc p.events (p.others ++ p.end ∷ p.later) s v p.pairs is p.more p.whole p.spelled in
-    record {
-      ugc = [];
-      events = b.events;
-      pairs = v ∷ p.pairs;
-      others = p.others;
-      end = p.end;
-      later = p.later;
-      segments = p.segments;
-      whole = b.whole;
-      more = refl;
-      spelled = b.spelled;
-      behind = p.behind;
-      rest = p.rest;
-      ended = p.ended;
-      then = p.then;
-      is = p.is ∙ ap (λ (q : List Pair). gs ++ made zs d q ∷ p.segments) (append_assoc ps (v ∷ []) p.pairs);
-    }
+one_event bytes lines out gs zs d ps s v is p = record { ends = pair_more bytes lines s v is p.ends; segments = p.segments; then = p.then; is = p.is ∙ ap (λ (q : List Pair). gs ++ made zs d q ∷ p.segments) (append_assoc ps (v ∷ []) p.ends.pairs) }
 
 one_skipped : (bytes lines : List ℕ) (out gs : Out) (zs : List Place) (d : DayStamp) (ps : List Pair) (s k : ℕ) → InPairs bytes lines out gs zs d ps k → InPairs bytes (s ∷ lines) out gs zs d ps (suc k)
-one_skipped bytes lines out gs zs d ps s k p = record {
-  ugc = s ∷ p.ugc;
-  events = p.events;
-  pairs = p.pairs;
-  others = p.others;
-  end = p.end;
-  later = p.later;
-  segments = p.segments;
-  whole = ap (λ (xs : List ℕ). s ∷ xs) p.whole;
-  more = ap suc p.more;
-  spelled = p.spelled;
-  behind = p.behind;
-  rest = p.rest;
-  ended = p.ended;
-  then = p.then;
-  is = p.is;
-}
+one_skipped bytes lines out gs zs d ps s k p = record { ends = ugc_more bytes lines s k p.ends; segments = p.segments; then = p.then; is = p.is }
 
 abbrev pub Later : List ℕ → List ℕ → Out → Type 0
 Later bytes lines out = (gs : Out) (zs : List Place) (d : DayStamp) (ps : List Pair) (first left number : ℕ) (stage : Stage) → walk bytes (state gs zs d ps first left stage) number lines ≡ Ok out → Sound bytes lines out gs zs d ps stage left

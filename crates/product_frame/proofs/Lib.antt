@@ -5,6 +5,7 @@ pub mod Events
 pub mod Nearness
 pub mod Segments
 pub mod Starts
+pub mod SegmentEnds
 pub mod Found
 pub mod Whole
 pub mod FaultsRead

@@ -52,21 +52,18 @@ longer t n le = let there : n < length t = (agree t n (omega arith)).0 in le-leb
 
 -- ---- a heading line
 
+-- a line and its text have the same byte there
+abbrev Same : List ℕ → ℕ → Type 0
+Same t k = get_or (line_of t) k 0 ≡ get_or t k 0
+
+-- the first seven bytes of a line are those of its text
+first_seven : (t : List ℕ) → 7 ≤ length (line_of t) → Same t 0 × Same t 1 × Same t 2 × Same t 3 × Same t 4 × Same t 5 × Same t 6
+first_seven t le = (byte_at t 0 (omega arith), byte_at t 1 (omega arith), byte_at t 2 (omega arith), byte_at t 3 (omega arith), byte_at t 4 (omega arith), byte_at t 5 (omega arith), byte_at t 6 (omega arith))
+
 same_front : (t : List ℕ) → 12 ≤ length (line_of t) → is_front (line_of t) ≡ is_front t
-same_front t le = rw (
-  byte_at t 0 (omega arith),
-  byte_at t 1 (omega arith),
-  byte_at t 2 (omega arith),
-  byte_at t 3 (omega arith),
-  byte_at t 4 (omega arith),
-  byte_at t 5 (omega arith),
-  byte_at t 6 (omega arith),
-  byte_at t 7 (omega arith),
-  byte_at t 8 (omega arith),
-  byte_at t 9 (omega arith),
-  byte_at t 10 (omega arith),
-  byte_at t 11 (omega arith),
-) refl
+same_front t le =
+    let f = first_seven t (omega arith) in
+    rw (f.0, f.1, f.2, f.3, f.4, f.5, f.6, byte_at t 7 (omega arith), byte_at t 8 (omega arith), byte_at t 9 (omega arith), byte_at t 10 (omega arith), byte_at t 11 (omega arith)) refl
 
 pub no_heading : (t : List ℕ) → may_be_heading t ≡ false → heading_of (line_of t) ≡ None
 no_heading t h = elim (cases_lt (length (line_of t)) 18) [
@@ -77,17 +74,9 @@ no_heading t h = elim (cases_lt (length (line_of t)) 18) [
 -- ---- a line that begins a segment
 
 same_begin : (t : List ℕ) → 7 ≤ length (line_of t) → begins (line_of t) ≡ begins t
-same_begin t le = rw (
-  le-leb 7 (length (line_of t)) le,
-  longer t 6 le,
-  byte_at t 0 (omega arith),
-  byte_at t 1 (omega arith),
-  byte_at t 2 (omega arith),
-  byte_at t 3 (omega arith),
-  byte_at t 4 (omega arith),
-  byte_at t 5 (omega arith),
-  byte_at t 6 (omega arith),
-) refl
+same_begin t le =
+    let f = first_seven t le in
+    rw (le-leb 7 (length (line_of t)) le, longer t 6 le, f.0, f.1, f.2, f.3, f.4, f.5, f.6) refl
 
 pub no_begin : (t : List ℕ) → begins t ≡ false → begins (line_of t) ≡ false
 no_begin t h = elim (cases_lt (length (line_of t)) 7) [

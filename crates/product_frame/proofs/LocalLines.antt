@@ -18,7 +18,8 @@ use Rattle.desk_clock.proofs.RoundTrip.{reads_back}
 use Rattle.product_frame.specs.Text.{line_of, is_left_out}
 use Rattle.product_frame.specs.Parts.{local_at}
 use Rattle.product_frame.specs.LineRules.{IsOneLine}
-use Rattle.product_frame.proofs.Runs.{all_both, line_whole}
+use Rattle.ugc_codes.proofs.Written.{all_both}
+use Rattle.product_frame.proofs.Runs.{line_whole}
 
 abbrev pub NoEnd : ℕ → Type 0
 NoEnd c = (c == 10) ≡ false

@@ -20,7 +20,8 @@ use Rattle.product_frame.specs.declared.frame.Heading.{Heading}
 use Rattle.product_frame.specs.declared.frame.Frame.{Frame}
 use Rattle.product_frame.specs.declared.write.Block.{Block}
 use Rattle.product_frame.specs.declared.write.Body.{Body}
-use Rattle.product_frame.proofs.Runs.{all_both, all_from, starting, behind, Runs, run_both, run_line, next_line}
+use Rattle.ugc_codes.proofs.Written.{all_both}
+use Rattle.product_frame.proofs.Runs.{all_from, starting, behind, Runs, run_both, run_line, next_line}
 use Rattle.product_frame.proofs.LineKinds.{no_digit_no_heading, no_digit_no_segment, no_digit_no_local, no_heading_length}
 use Rattle.product_frame.proofs.LocalLines.{NoEnd, local_line, local_whole, local_begins, local_reads}
 use Rattle.product_frame.proofs.HeadingLines.{heading_laid}

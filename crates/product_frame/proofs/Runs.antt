@@ -4,16 +4,13 @@ use Rattle.std.specs.Prelude.{OnOk}
 use Rattle.std.specs.List.{All, AllByRecursion}
 use Rattle.std.proofs.lemmas.Bool.{cases_Bool, eqb-true}
 use Rattle.std.proofs.lemmas.List.{get_or_default}
+use Rattle.ugc_codes.proofs.Written.{all_both}
 use Rattle.product_frame.specs.Text.{starts_from, line_of, before, is_left_out, is_empty, ends_in}
 use Rattle.product_frame.specs.Frames.{line_at}
 use Rattle.product_frame.specs.Layout.{ended}
 use Rattle.product_frame.specs.LineRules.{IsOneLine, onto, lines_in, ends_behind}
 
 -- ---- what holds of each element
-
-pub all_both : {X : Type 0} (P : X → Type 0) (xs ys : List X) → AllByRecursion P xs → AllByRecursion P ys → AllByRecursion P (xs ++ ys)
-all_both P [] ys h k = k
-all_both P (x ∷ xs) ys h k = (h.0, all_both P xs ys h.1 k)
 
 pub all_front : {X : Type 0} (P : X → Type 0) (xs ys : List X) → AllByRecursion P (xs ++ ys) → AllByRecursion P xs
 all_front P [] ys h = tt

@@ -18,7 +18,8 @@ use Rattle.product_frame.specs.LineRules.{IsOneLine, lines_in, IsSegmentWritten,
 use Rattle.product_frame.specs.declared.frame.Pair.{Pair}
 use Rattle.product_frame.specs.declared.frame.FrameSegment.{FrameSegment}
 use Rattle.product_frame.specs.declared.write.Body.{Body}
-use Rattle.product_frame.proofs.Runs.{all_both, all_weaker, all_from, starting, start_moved, starts_behind, as_many_ends, behind, Runs, run_none, run_both, run_line, run_text, run_ended, ended_behind, next_line, lines_have}
+use Rattle.ugc_codes.proofs.Written.{all_both}
+use Rattle.product_frame.proofs.Runs.{all_weaker, all_from, starting, start_moved, starts_behind, as_many_ends, behind, Runs, run_none, run_both, run_line, run_text, run_ended, ended_behind, next_line, lines_have}
 use Rattle.product_frame.proofs.LineKinds.{no_blank_no_heading, no_heading_first, no_heading_length, no_capital_begins, digit_no_capital}
 use Rattle.product_frame.proofs.LocalLines.{BeginsWithDigit}
 use Rattle.product_frame.proofs.UgcLines.{NoBlank, ugc_clear, ugc_begins}

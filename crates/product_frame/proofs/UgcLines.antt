@@ -17,7 +17,8 @@ use Rattle.ugc_codes.specs.Written.{are_alike, goes_on, single, pieces, groups_f
 use Rattle.hazard_types.specs.Characters.{is_blank}
 use Rattle.product_frame.specs.Text.{line_of, before, is_left_out, is_empty}
 use Rattle.product_frame.specs.Parts.{begins}
-use Rattle.product_frame.proofs.Runs.{all_both, all_from}
+use Rattle.ugc_codes.proofs.Written.{all_both}
+use Rattle.product_frame.proofs.Runs.{all_from}
 use Rattle.product_frame.proofs.LocalLines.{NoEnd, digit_no_end}
 
 abbrev pub NoBlank : ℕ → Type 0

@@ -1,15 +1,12 @@
 -- What is written for a plan keeps the line rules.
-use Rattle.std.proofs.Common.{◌≡◌, ℕ, suc, ◌+◌, ◌==◌, ◌&&◌, ◌<◌, ◌≤◌, not, Bool, true, false, List, [], ◌∷◌, ◌++◌, length, take, drop, map, refl, ap, cond, arith, Option, Some, None, nat_le}
-use Rattle.std.specs.Prelude.{IsSome, IsTrue, slice_index_or, fold}
-use Rattle.std.specs.List.{All, AllByRecursion, list_any, list_all}
+use Rattle.std.proofs.Common.{◌≡◌, ℕ, suc, ◌+◌, ◌==◌, ◌&&◌, ◌<◌, ◌≤◌, not, Bool, true, false, List, [], ◌∷◌, ◌++◌, length, take, drop, map, refl, ap, arith, Option, Some, None, nat_le}
+use Rattle.std.specs.Prelude.{IsSome, IsTrue, slice_index_or}
+use Rattle.std.specs.List.{All, AllByRecursion, list_all}
 use Rattle.std.specs.Map.{values_of}
 use Rattle.std.proofs.lemmas.Bool.{and_parts, and_from, eqb-true}
-use Rattle.std.proofs.lemmas.Bool.Decides.{nat_tests}
 use Rattle.std.proofs.lemmas.List.Elements.{All-from_recursion, recursion_from_All}
-use Rattle.hazard_types.specs.Calendar.{IsCivil, civil_of, is_digit}
+use Rattle.hazard_types.specs.Calendar.{is_digit}
 use Rattle.hazard_types.specs.Characters.{is_name_byte, is_printable, is_office}
-use Rattle.hazard_types.specs.Days.{day_stamp_of}
-use Rattle.hazard_types.specs.Digits.{is_day_stamp}
 use Rattle.hazard_types.specs.Names.{category_code}
 use Rattle.hazard_types.specs.Places.{is_capital}
 use Rattle.hazard_types.specs.declared.codes.Category.{Category}
@@ -17,22 +14,21 @@ use Rattle.hazard_types.specs.declared.codes.Category.TheVariants.{Wsw, Npw, Rfw
 use Rattle.hazard_types.specs.declared.codes.Class.{Class}
 use Rattle.hazard_types.specs.declared.line.SegLine.{SegLine}
 use Rattle.hazard_types.specs.declared.line.Segment.{Segment}
-use Rattle.hazard_types.specs.declared.period.End.{End}
-use Rattle.hazard_types.specs.declared.period.End.TheVariants.{At, Ufn}
 use Rattle.office_types.specs.declared.request.Edition.{Edition}
 use Rattle.office_types.specs.declared.request.EventTexts.{EventTexts}
 use Rattle.office_types.specs.declared.request.Plan.{Plan}
-use Rattle.hazard_types.proofs.Years.{day_at_most, civil_ok}
+use Rattle.hazard_types.proofs.DayStamps.{day_is}
 use Rattle.desk_settings.specs.Forms.{is_heading, is_site, is_office_line, is_line_byte, is_zone_name, begins_with_letter}
 use Rattle.desk_settings.specs.Looking.{category_place, name_for_zone}
 use Rattle.desk_settings.specs.declared.settings.Settings.{Settings}
-use Rattle.segmenter.specs.Expiry.{leaves_live, lesser, lesser_left, stands_long, expiry_of}
+use Rattle.segmenter.specs.Expiry.{expiry_of}
+use Rattle.segmenter.proofs.ExpiryLow.{expiry_low}
 use Rattle.product_frame.specs.Parts.{is_ttaaii, is_identifier}
 use Rattle.product_frame.specs.LineRules.{IsOneLine, HasNoDigit, are_three, IsPairWritten, IsSegmentWritten, IsBody, ReadsBack, IsWritable}
 use Rattle.product_frame.specs.Frame.{FrameOf}
 use Rattle.product_frame.specs.Splitting.{IsOneProduct}
 use Rattle.product_frame.proofs.ProductLines.{written_frame, written_one}
-use Rattle.product_frame.proofs.Runs.{all_both}
+use Rattle.ugc_codes.proofs.Written.{all_both}
 use Rattle.product_template.specs.Bodies.{is_training, body_of}
 use Rattle.product_template.specs.Conditions.{CanBeWritten, CanBeSegment, ArePrintable, IsLetter, CanBeText}
 use Rattle.product_template.specs.Text.{product_name, corrected, three_letters, pair_of, segment_of, frame_of, block_of, bodies_of, text_of}
@@ -82,16 +78,6 @@ heading_parts h is =
 letters_three : (letter : Option ℕ) → IsLetter letter → are_three (three_letters letter) ≡ true
 letters_three None h = refl
 letters_three (Some letter) h = rw h refl
-
-test_le : (a b : ℕ) → a ≤ b → nat_le a b ≡ true
-test_le a b h = grind (arith, nat_tests)
-
-day_by : (m : ℕ) → IsCivil (civil_of m) → is_day_stamp (day_stamp_of m) ≡ true
-day_by m c =
-    rw (test_le 1 (civil_of m).day c.first_day, test_le (civil_of m).day 31 (day_at_most (civil_of m) c), test_le (civil_of m).hour 23 (omega (arith, c.hour)), test_le (civil_of m).minute 59 (omega (arith, c.minute))) refl
-
-day_is : (m : ℕ) → m < 52596000 → is_day_stamp (day_stamp_of m) ≡ true
-day_is m lt = day_by m (civil_ok m lt)
 
 -- ---- the identifier
 
@@ -164,25 +150,6 @@ office_line_is t h =
     (line_to t (printable_line t q.0), digits_to t q.1)
 
 -- ---- the segments
-
-lesser_low : (k m : ℕ) (end : End) → m ≤ k → lesser m end ≤ k
-lesser_low k m (At e) le = omega arith
-lesser_low k m Ufn le = le
-
-left_low : (k m : ℕ) (b : Bool) (end : End) → m ≤ k → cond b (lesser m end) m ≤ k
-left_low k m true end le = lesser_low k m end le
-left_low k m false end le = le
-
-all_low : (k m : ℕ) (lines : List SegLine) → m ≤ k → fold lesser_left m lines ≤ k
-all_low k m [] le = le
-all_low k m (line ∷ lines) le = all_low k (lesser_left m line) lines (left_low k m (leaves_live line.action) line.end le)
-
-by_test : (k m n : ℕ) (b : Bool) → m ≤ k → n ≤ k → cond b m n ≤ k
-by_test k m n true x y = x
-by_test k m n false x y = y
-
-expiry_low : (t : ℕ) (lines : List SegLine) → expiry_of t lines ≤ t + 480
-expiry_low t lines = by_test (t + 480) (fold lesser_left (t + 480) lines) (t + 60) (list_any stands_long lines) (all_low (t + 480) (t + 480) lines (omega arith)) (omega arith)
 
 pairs_written : (class : Class) (office : List ℕ) (lines : List SegLine) → is_office office ≡ true → AllByRecursion CanBeWritten lines → AllByRecursion IsPairWritten (map (pair_of class office) lines)
 pairs_written class office [] is h = tt

@@ -11,9 +11,10 @@ ghost use Rattle.headline_text.specs.Wrapping.{wrapped};
 ghost use Rattle.product_template.specs.Conditions.{CanBeWritten, CanBeSegment, AreNamed};
 
 use crate::bullets::{put_bullets, put_closed, texts_on};
+use crate::making::Making;
 use crate::names::names_of;
 use desk_settings::Settings;
-use hazard_types::{Class, List, LocalZone, Minute, Oom, SegLine, Segment, Text};
+use hazard_types::{List, LocalZone, Minute, Oom, SegLine, Segment, Text};
 use headline_text::{LineTexts, headline, line_texts};
 use office_types::{Edition, EventTexts};
 use product_frame::Body;
@@ -88,25 +89,24 @@ fn lines_text(
 fn body_of(
     alloc: Global,
     settings: &Settings,
-    class: Class,
+    making: Making,
     texts: &[EventTexts],
-    t: Minute,
-    edition: Edition,
     segment: &Segment,
 ) -> Result<Body, Oom>
     requires order { IsStrictlySortedBy by_place (keys_of settings.now.zones) }
     requires segment { CanBeSegment segment.now }
-    requires named { is_training class ≡ false
+    requires named { is_training making.class ≡ false
         → All (λ z. IsSome (name_for_zone settings.now.zones z)) segment.now.zones }
     ensures { IfOk result
-        (λ body. body ≡ body_of settings.now class texts.now t edition segment.now) }
+        (λ body. body ≡ body_of settings.now making.class texts.now making.t making.edition
+        segment.now) }
 {
-    let names = names_of(alloc, settings, class, segment.zones.as_slice())?;
+    let names = names_of(alloc, settings, making.class, segment.zones.as_slice())?;
     let text = lines_text(
         alloc,
-        edition,
+        making.edition,
         settings.zone,
-        t,
+        making.t,
         texts,
         segment.lines.as_slice(),
     )?;
@@ -123,21 +123,20 @@ fn body_of(
 pub fn bodies_of(
     alloc: Global,
     settings: &Settings,
-    class: Class,
+    making: Making,
     texts: &[EventTexts],
-    t: Minute,
-    edition: Edition,
     segments: &[Segment],
 ) -> Result<List<Body>, Oom>
     requires order { IsStrictlySortedBy by_place (keys_of settings.now.zones) }
     requires segments { All CanBeSegment segments.now }
-    requires named { is_training class ≡ false → AreNamed settings.now.zones segments.now }
+    requires named { is_training making.class ≡ false → AreNamed settings.now.zones segments.now }
     ensures { IfOk result
-        (λ bodies. bodies ≡ map (body_of settings.now class texts.now t edition) segments.now) }
+        (λ bodies. bodies ≡ map
+        (body_of settings.now making.class texts.now making.t making.edition) segments.now) }
 {
     let mut bodies = List::new(alloc);
     for segment in segments {
-        bodies.push(body_of(alloc, settings, class, texts, t, edition, segment)?)?;
+        bodies.push(body_of(alloc, settings, making, texts, segment)?)?;
     }
     Ok(bodies)
 }

@@ -8,6 +8,7 @@ mod bullets;
 mod frame;
 mod laws;
 mod lengths;
+mod making;
 mod names;
 mod text;
 

@@ -12,6 +12,7 @@ ghost use Rattle.product_template.specs.Text.{frame_of, text_of, text_with};
 use crate::bodies::bodies_of;
 use crate::frame::{block_of, frame_of};
 use crate::lengths::{checked_sum, each_told, length_in_segments, may_be_long};
+use crate::making::Making;
 use desk_settings::Settings;
 use hazard_types::{Class, Minute, Oom, Or, Text};
 use office_types::{Edition, EventTexts, Plan, Refusal};
@@ -25,30 +26,22 @@ const MOST: usize = 65_536;
 fn whole_text(
     alloc: Global,
     settings: &Settings,
-    class: Class,
+    making: Making,
     plan: &Plan,
     texts: &[EventTexts],
-    t: Minute,
-    edition: Edition,
 ) -> Result<Text, Oom>
-    requires can { CanBeText settings.now class plan.now t }
+    requires can { CanBeText settings.now making.class plan.now making.t }
     requires printable { All ArePrintable texts.now }
     ensures value { IfOk result
-        (λ text. text ≡ text_with settings.now class plan.now texts.now t edition) }
-    ensures frame { IfOk result (λ text. FrameOf text (frame_of settings.now class plan.now t)) }
+        (λ text. text ≡ text_with settings.now making.class plan.now texts.now making.t
+        making.edition) }
+    ensures frame { IfOk result
+        (λ text. FrameOf text (frame_of settings.now making.class plan.now making.t)) }
     ensures one { IfOk result IsOneProduct }
 {
-    let frame = frame_of(alloc, settings, class, plan, t)?;
-    let block = block_of(alloc, settings, plan, t)?;
-    let bodies = bodies_of(
-        alloc,
-        settings,
-        class,
-        texts,
-        t,
-        edition,
-        plan.segments.as_slice(),
-    )?;
+    let frame = frame_of(alloc, settings, making.class, plan, making.t)?;
+    let block = block_of(alloc, settings, plan, making.t)?;
+    let bodies = bodies_of(alloc, settings, making, texts, plan.segments.as_slice())?;
     frame_text(alloc, &frame, &block, &bodies)
 }
 
@@ -57,17 +50,16 @@ fn whole_text(
 fn text_length(
     alloc: Global,
     settings: &Settings,
-    class: Class,
+    making: Making,
     plan: &Plan,
-    t: Minute,
-    edition: Edition,
 ) -> Result<usize, Oom>
-    requires { CanBeText settings.now class plan.now t }
-    ensures { IfOk result (λ n. n ≡ length (text_of settings.now class plan.now t edition)) }
+    requires { CanBeText settings.now making.class plan.now making.t }
+    ensures { IfOk result (λ n. n
+        ≡ length (text_of settings.now making.class plan.now making.t making.edition)) }
 {
     let told = each_told(alloc, plan.texts.as_slice())?;
     let said = length_in_segments(told.as_slice(), plan.segments.as_slice())?;
-    let bare = whole_text(alloc, settings, class, plan, &[], t, edition)?;
+    let bare = whole_text(alloc, settings, making, plan, &[])?;
     checked_sum(bare.len(), said)
 }
 
@@ -105,14 +97,15 @@ pub fn product_text(
     // Its one heading line is its first line, and each line has its end.
     ensures one_product { IfOk result IsOneProduct }
 {
+    let making = Making { class, t, edition };
     if may_be_long(plan, MOST) {
-        let bytes = text_length(alloc, settings, class, plan, t, edition)?;
+        let bytes = text_length(alloc, settings, making, plan)?;
         if bytes > MOST {
             return Err(Or::No(Refusal::TooLong { bytes }));
         }
     }
     let texts = plan.texts.as_slice();
-    let text = whole_text(alloc, settings, class, plan, texts, t, edition)?;
+    let text = whole_text(alloc, settings, making, plan, texts)?;
     if text.len() > MOST {
         return Err(Or::No(Refusal::TooLong { bytes: text.len() }));
     }

@@ -24,11 +24,13 @@ use Rattle.office_types.specs.declared.request.Target.{Target}
 use Rattle.office_types.specs.declared.request.Target.TheVariants as target
 use Rattle.office_types.specs.declared.request.Texts.{Texts}
 use Rattle.hazard_types.specs.Letters.{severity_code, status_code}
-use Rattle.request_json.specs.Canonical.{put_text, put_number, put_source, put_times, put_begin, put_end, zone_data, zone_items, texts_data, flood_data, event_texts_data, event_texts_items, put_flood, put_target, put_zones_texts, put_put, put_event_part, put_routine, put_do, put_draft, put_put_do, put_event_do, put_routine_do, put_intent, intent_data, put_request, asked_members}
+use Rattle.json_parts.specs.Written.{put_text, put_number}
+use Rattle.request_json.specs.Canonical.{put_source, put_times, put_begin, put_end, zone_data, zone_items, texts_data, flood_data, event_texts_data, event_texts_items, put_flood, put_target, put_zones_texts, put_put, put_event_part, put_routine, put_do, put_draft, put_put_do, put_event_do, put_routine_do, put_intent, intent_data, put_request, asked_members}
 use Rattle.request_json.specs.Replies.{draft_members, intent_items}
 use Rattle.office_types.specs.declared.request.Draft.{Draft}
 use Rattle.request_json.specs.declared.asked.Asked.{Asked}
-use Rattle.request_json.proofs.Floats.{no_float_put, put_text_no_float, put_number_no_float, mapped_no_float, text_no_float}
+use Rattle.json_parts.proofs.Floats.{no_float_put, put_text_no_float, put_number_no_float, text_no_float}
+use Rattle.request_json.proofs.Floats.{mapped_no_float}
 
 -- members without a float
 abbrev Clean : Members → Type 0

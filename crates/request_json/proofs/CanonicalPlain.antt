@@ -26,7 +26,8 @@ use Rattle.office_types.specs.declared.request.Target.{Target}
 use Rattle.office_types.specs.declared.request.Target.TheVariants as target
 use Rattle.office_types.specs.declared.request.Texts.{Texts}
 use Rattle.hazard_types.specs.Letters.{severity_code, status_code}
-use Rattle.request_json.specs.Canonical.{as_text, put_text, put_number, put_source, put_times, put_begin, put_end, zone_data, zone_items, texts_data, flood_data, event_texts_data, event_texts_items, put_flood, put_target, put_zones_texts, put_put, put_event_part, put_routine, put_do, put_draft, put_request, asked_members}
+use Rattle.json_parts.specs.Written.{as_text, put_text, put_number}
+use Rattle.request_json.specs.Canonical.{put_source, put_times, put_begin, put_end, zone_data, zone_items, texts_data, flood_data, event_texts_data, event_texts_items, put_flood, put_target, put_zones_texts, put_put, put_event_part, put_routine, put_do, put_draft, put_request, asked_members}
 use Rattle.request_json.specs.Formed.{IsNumber, AreTexts, AreEventTexts, AreFloodValues, IsBegin, IsEnd, IsTarget, IsPutPart, IsEventPart, IsRoutinePart, HasRequestForm, HasForm}
 use Rattle.request_json.specs.declared.asked.Asked.{Asked}
 use Rattle.request_json.proofs.CanonicalUtf8.{stamp_utf8, time_utf8, desk_utf8, location_utf8, hazard_utf8, event_utf8, zone_utf8, category_utf8, severity_utf8, status_utf8, cause_utf8}

@@ -4,6 +4,7 @@ use Rattle.std.specs.List.{list_all}
 use Rattle.std.specs.Str.{bytes_eq}
 use Rattle.std.proofs.lemmas.Bool.{and_parts}
 use Rattle.std.proofs.lemmas.Bool.Decides.{nat_tests}
+use Rattle.std.proofs.lemmas.Slice.Eq.{bytes_eq-Decides}
 use Rattle.std.proofs.lemmas.Str.{IsUtf8-append}
 use Rattle.json.proofs.Printed.Utf8.{are_ascii, IsUtf8-are_ascii}
 use Rattle.hazard_types.specs.Calendar.{IsCivil, stamp_of, stamp_text, civil_of}
@@ -15,23 +16,21 @@ use Rattle.hazard_types.specs.Hazards.{hazard_code}
 use Rattle.hazard_types.specs.Names.{category_code, kind_code, zone_text, event_text}
 use Rattle.hazard_types.specs.Orders.{sig_letter}
 use Rattle.hazard_types.specs.Places.{Place, IsPlace, are_letters, is_capital, is_number}
-use Rattle.hazard_types.specs.Tables.{cause_rows}
+use Rattle.hazard_types.specs.Tables.{category_rows, severity_rows, cause_rows, status_rows}
 use Rattle.hazard_types.specs.Times.{time_text}
 use Rattle.hazard_types.specs.declared.calendar.Civil.{Civil}
 use Rattle.hazard_types.specs.declared.codes.Category.{Category}
-use Rattle.hazard_types.specs.declared.codes.Category.TheVariants as category
 use Rattle.hazard_types.specs.declared.codes.Coded.{Coded}
 use Rattle.hazard_types.specs.declared.codes.Severity.{Severity}
-use Rattle.hazard_types.specs.declared.codes.Severity.TheVariants as severity
 use Rattle.hazard_types.specs.declared.codes.Status.{Status}
-use Rattle.hazard_types.specs.declared.codes.Status.TheVariants as status
 use Rattle.hazard_types.specs.declared.hazard.Event.{Event}
 use Rattle.hazard_types.specs.declared.hazard.Hazard.{Hazard}
 use Rattle.hazard_types.specs.declared.hazard.Sig.{Sig}
 use Rattle.hazard_types.specs.declared.hazard.Sig.TheVariants.{W, A, Y, S, F, O, N}
 use Rattle.hazard_types.specs.declared.zone.Kind.{Kind}
 use Rattle.hazard_types.specs.declared.zone.Kind.TheVariants.{C, Z}
-use Rattle.hazard_types.proofs.NamesBack.{wide_four}
+use Rattle.hazard_types.proofs.CodesBack.{severity_found, status_found}
+use Rattle.hazard_types.proofs.NamesBack.{wide_four, category_back}
 use Rattle.hazard_types.proofs.Years.{civil_ok, day_at_most}
 use Rattle.hazard_types.specs.Letters.{severity_code, status_code}
 use Rattle.request_json.specs.Formed.{IsMinute, IsHazard, IsEvent}
@@ -118,40 +117,29 @@ zone_utf8 z h =
 
 -- ---- codes
 
+ascii_by : {X : Type 0} (t : Bool) (code text : List ℕ) (x y : X) (rest : Option X) → bytes_eq code text ≡ t → are_ascii code ≡ true → (rest ≡ Some y → are_ascii text ≡ true) → cond t (Some x) rest ≡ Some y → are_ascii text ≡ true
+ascii_by true code text x y rest same ascii later h = subst (λ (b : List ℕ). are_ascii b ≡ true) ((bytes_eq-Decides code text).0 same) ascii
+ascii_by false code text x y rest same ascii later h = later h
+
+-- a text that a table has is ASCII, where the codes of the table are
+found_ascii : {X : Type 0} (rows : List (Coded X)) (text : List ℕ) (x : X) → list_all (λ (r : Coded X). are_ascii (without_padding r.code)) rows ≡ true → value_for_code rows text ≡ Some x → are_ascii text ≡ true
+found_ascii [] text x all h = absurd (cc)
+found_ascii {X} (r ∷ rows) text x all h =
+    let p = and_parts (are_ascii (without_padding r.code)) (list_all (λ (q : Coded X). are_ascii (without_padding q.code)) rows) all in
+    ascii_by (bytes_eq (without_padding r.code) text) (without_padding r.code) text r.value x (value_for_code rows text) refl p.0 (found_ascii rows text x p.1) h
+
 pub category_utf8 : (c : Category) → IsUtf8 (category_code c)
-category_utf8 category.Wsw = IsUtf8-are_ascii _ refl
-category_utf8 category.Npw = IsUtf8-are_ascii _ refl
-category_utf8 category.Rfw = IsUtf8-are_ascii _ refl
-category_utf8 category.Cfw = IsUtf8-are_ascii _ refl
-category_utf8 category.Mww = IsUtf8-are_ascii _ refl
-category_utf8 category.Ffa = IsUtf8-are_ascii _ refl
-category_utf8 category.Flw = IsUtf8-are_ascii _ refl
-category_utf8 category.Fls = IsUtf8-are_ascii _ refl
+unfolding category_rows
+category_utf8 c = IsUtf8-are_ascii _ (found_ascii category_rows (category_code c) c refl (category_back c))
 
 pub severity_utf8 : (s : Severity) → IsUtf8 (severity_code s)
-severity_utf8 severity.N = IsUtf8-are_ascii _ refl
-severity_utf8 severity.Zero = IsUtf8-are_ascii _ refl
-severity_utf8 severity.One = IsUtf8-are_ascii _ refl
-severity_utf8 severity.Two = IsUtf8-are_ascii _ refl
-severity_utf8 severity.Three = IsUtf8-are_ascii _ refl
-severity_utf8 severity.U = IsUtf8-are_ascii _ refl
+unfolding severity_rows
+severity_utf8 s = IsUtf8-are_ascii _ (found_ascii severity_rows (severity_code s) s refl (severity_found s))
 
 pub status_utf8 : (s : Status) → IsUtf8 (status_code s)
-status_utf8 status.No = IsUtf8-are_ascii _ refl
-status_utf8 status.Nr = IsUtf8-are_ascii _ refl
-status_utf8 status.Uu = IsUtf8-are_ascii _ refl
-status_utf8 status.Oo = IsUtf8-are_ascii _ refl
-
-beside_by : (t : Bool) (value code : List ℕ) (rest : Option (List ℕ)) → are_ascii value ≡ true → (rest ≡ Some code → are_ascii code ≡ true) → cond t (Some value) rest ≡ Some code → are_ascii code ≡ true
-beside_by true value code rest ascii later h = let same : value ≡ code = cc in subst (λ (x : List ℕ). are_ascii x ≡ true) same ascii
-beside_by false value code rest ascii later h = later h
-
-beside_ascii : (rows : List (Coded (List ℕ))) (text code : List ℕ) → list_all (λ (r : Coded (List ℕ)). are_ascii r.value) rows ≡ true → value_for_code rows text ≡ Some code → are_ascii code ≡ true
-beside_ascii [] text code all h = absurd (cc)
-beside_ascii (r ∷ rows) text code all h =
-    let p = and_parts (are_ascii r.value) (list_all (λ (x : Coded (List ℕ)). are_ascii x.value) rows) all in
-    beside_by (bytes_eq (without_padding r.code) text) r.value code (value_for_code rows text) p.0 (beside_ascii rows text code p.1) h
+unfolding status_rows
+status_utf8 s = IsUtf8-are_ascii _ (found_ascii status_rows (status_code s) s refl (status_found s))
 
 pub cause_utf8 : (cause : List ℕ) → value_for_code cause_rows cause ≡ Some cause → IsUtf8 cause
 unfolding cause_rows
-cause_utf8 cause h = IsUtf8-are_ascii cause (beside_ascii cause_rows cause cause refl h)
+cause_utf8 cause h = IsUtf8-are_ascii cause (found_ascii cause_rows cause cause refl h)

@@ -17,8 +17,8 @@ use Rattle.hazard_types.specs.Calendar.{stamp_at, is_digit}
 use Rattle.hazard_types.specs.Characters.{location_at, is_location}
 use Rattle.hazard_types.specs.Codes.{value_for_code, without_padding}
 use Rattle.office_types.specs.Desks.{is_desk_name}
-use Rattle.hazard_types.specs.Names.{zone_at, hazard_at, sig_at, four_of, event_if, event_at, number_at as four_at}
-use Rattle.hazard_types.specs.Places.{Place, IsPlace, is_capital}
+use Rattle.hazard_types.specs.Names.{hazard_at, sig_at, four_of, event_if, event_at, number_at as four_at}
+use Rattle.hazard_types.specs.Places.{is_capital}
 use Rattle.hazard_types.specs.Tables.{cause_rows}
 use Rattle.hazard_types.specs.declared.codes.Coded.{Coded}
 use Rattle.hazard_types.specs.declared.codes.Severity.{Severity}
@@ -34,12 +34,12 @@ use Rattle.hazard_types.specs.declared.period.End.TheVariants as end
 use Rattle.office_types.specs.declared.request.EventTexts.{EventTexts}
 use Rattle.office_types.specs.declared.request.Texts.{Texts}
 use Rattle.hazard_types.specs.Times.{time_at}
-use Rattle.request_json.specs.Fields.{begin_at, end_at, desk_named, if_small, if_counted, number_at, zones_of, site_in, severity_in, cause_in, time_in, status_in, values_in, flood_of, text_or_empty, free_text, four_texts, texts_of, event_texts_of, each_event_texts}
+use Rattle.request_json.specs.Fields.{begin_at, end_at, desk_named, if_small, if_counted, number_at, site_in, severity_in, cause_in, time_in, status_in, values_in, flood_of, text_or_empty, free_text, four_texts, texts_of, event_texts_of, each_event_texts}
 use Rattle.request_json.specs.Formed.{IsMinute, IsNumber, IsHazard, IsEvent, AreTexts, AreEventTexts, AreFloodValues, IsBegin, IsEnd}
-use Rattle.request_json.specs.Json.{text_at}
 use Rattle.request_json.specs.Keys.{all_known}
 use Rattle.request_json.specs.declared.keys.Keys.TheVariants as keys
-use Rattle.request_json.proofs.Asking.{both, all_two, and_then_some, map_some, if_some, digit_most, zone_ok, stamp_fits}
+use Rattle.hazard_types.proofs.Inverting.{both, all_two, and_then_some, map_some, if_some, digit_most, stamp_fits}
+use Rattle.json_parts.specs.Json.{text_at}
 use Rattle.request_json.proofs.ValueTexts.{HasTexts, ItemsHaveTexts, MembersHaveTexts}
 
 least : (a b : ℕ) → nat_le a b ≡ true → a ≤ b
@@ -122,17 +122,6 @@ unfolding event_at
 event_form bytes e k =
     let c = event_chain ((length bytes == 14) && (slice_index bytes 4 == 46) && (slice_index bytes 9 == 46)) (hazard_at (take 4 bytes)) (four_at bytes 5) (four_at bytes 10) e k in
     event_from c.0 c.1 c.2 e (hazard_form (take 4 bytes) c.0 c.3) (four_most (slice_index bytes 5) (slice_index bytes 6) (slice_index bytes 7) (slice_index bytes 8) c.1 c.4) c.5
-
-each_zone : (items : Items) (zones : List Place) → zones_of items ≡ Some zones → AllByRecursion IsPlace zones
-each_zone no_items zones h = let e : [] ≡ zones = cc in subst (λ zs. AllByRecursion IsPlace zs) e tt
-each_zone (item d ds) zones h =
-    let a = and_then_some (option_and_then zone_at (as_str d)) _ zones h in
-    let z = and_then_some (as_str d) zone_at a.0 a.1 in
-    let m = map_some (zones_of ds) _ zones a.2 in
-    subst (λ zs. AllByRecursion IsPlace zs) m.2 (zone_ok z.0 a.0 z.2, each_zone ds m.0 m.1)
-
-pub zones_form : (items : Items) (zones : List Place) → zones_of items ≡ Some zones → All IsPlace zones
-zones_form items zones h = All-from_recursion IsPlace zones (each_zone items zones h)
 
 -- ---- minutes
 

@@ -17,10 +17,6 @@ use Rattle.hazard_types.specs.Names.{zone_text, zone_at, event_text, event_at, h
 use Rattle.hazard_types.specs.Places.{Place, IsPlace}
 use Rattle.hazard_types.specs.Tables.{severity_rows, status_rows, cause_rows}
 use Rattle.hazard_types.specs.Times.{time_at, time_text}
-use Rattle.hazard_types.specs.declared.codes.Severity.{Severity}
-use Rattle.hazard_types.specs.declared.codes.Severity.TheVariants as severity
-use Rattle.hazard_types.specs.declared.codes.Status.{Status}
-use Rattle.hazard_types.specs.declared.codes.Status.TheVariants as status
 use Rattle.hazard_types.specs.declared.hazard.Event.{Event}
 use Rattle.hazard_types.specs.declared.hazard.Hazard.{Hazard}
 use Rattle.hazard_types.specs.declared.line.Flood.{Flood}
@@ -30,13 +26,16 @@ use Rattle.hazard_types.specs.declared.period.End.{End}
 use Rattle.hazard_types.specs.declared.period.End.TheVariants as end
 use Rattle.office_types.specs.declared.request.EventTexts.{EventTexts}
 use Rattle.office_types.specs.declared.request.Texts.{Texts}
+use Rattle.hazard_types.proofs.CodesBack.{severity_found, status_found}
 use Rattle.hazard_types.proofs.NamesBack.{zone_back, hazard_back, event_back}
 use Rattle.hazard_types.proofs.Stamps.{stamp_spells}
 use Rattle.hazard_types.specs.Letters.{severity_code, status_code}
-use Rattle.request_json.specs.Canonical.{as_text, put_source, put_times, zone_data, zone_items, texts_data, flood_data, event_texts_data, event_texts_items}
-use Rattle.request_json.specs.Fields.{begin_at, end_at, desk_named, if_small, if_counted, number_at, zones_of, site_in, severity_in, cause_in, time_in, status_in, values_in, flood_of, text_or_empty, free_text, four_texts, texts_of, event_texts_of, each_event_texts}
+use Rattle.json_parts.specs.Json.{zones_of, text_at}
+use Rattle.json_parts.specs.Written.{as_text}
+use Rattle.request_json.specs.Canonical.{put_source, put_times, zone_data, zone_items, texts_data, flood_data, event_texts_data, event_texts_items}
+use Rattle.request_json.specs.Fields.{begin_at, end_at, desk_named, if_small, if_counted, number_at, site_in, severity_in, cause_in, time_in, status_in, values_in, flood_of, text_or_empty, free_text, four_texts, texts_of, event_texts_of, each_event_texts}
 use Rattle.request_json.specs.Formed.{IsMinute, IsNumber, IsHazard, IsEvent, AreTexts, AreEventTexts, AreFloodValues, IsBegin, IsEnd}
-use Rattle.request_json.specs.Json.{text_at}
+use Rattle.request_json.specs.Pieces.{begin_bytes, end_bytes}
 use Rattle.request_json.specs.Keys.{has_key, all_known}
 use Rattle.request_json.specs.declared.keys.Keys.TheVariants as keys
 use Rattle.request_json.proofs.CanonicalUtf8.{time_utf8, location_utf8, event_utf8, zone_utf8, severity_utf8, status_utf8, cause_utf8}
@@ -92,19 +91,11 @@ zeros_are_none : stamp_at (codes "000000T0000Z") ≡ None
 unfolding stamp_at is_civil
 zeros_are_none = refl
 
-abbrev pub begin_text : Begin → List ℕ
-begin_text begin.Now = codes "now"
-begin_text (begin.At m) = stamp_of m
-
-abbrev pub end_text : End → List ℕ
-end_text end.Ufn = codes "ufn"
-end_text (end.At m) = stamp_of m
-
-pub begin_back : (b : Begin) → IsBegin b → begin_at (begin_text b) ≡ Some b
+pub begin_back : (b : Begin) → IsBegin b → begin_at (begin_bytes b) ≡ Some b
 begin_back begin.Now h = refl
 begin_back (begin.At m) h = rw (differs (stamp_of m) (codes "now") m (stamp_spells m h) now_is_none, stamp_spells m h) refl
 
-pub end_back : (e : End) → IsEnd e → end_at (end_text e) ≡ Some e
+pub end_back : (e : End) → IsEnd e → end_at (end_bytes e) ≡ Some e
 end_back end.Ufn h = refl
 end_back (end.At m) h = rw (differs (stamp_of m) (codes "ufn") m (stamp_spells m h) ufn_is_none, stamp_spells m h) refl
 
@@ -133,22 +124,6 @@ zones_back zs h = each_zone zs (recursion_from_All IsPlace zs h)
 
 -- ---- flood values
 
-severity_back : (s : Severity) → value_for_code severity_rows (severity_code s) ≡ Some s
-unfolding severity_rows
-severity_back severity.N = refl
-severity_back severity.Zero = refl
-severity_back severity.One = refl
-severity_back severity.Two = refl
-severity_back severity.Three = refl
-severity_back severity.U = refl
-
-status_back : (s : Status) → value_for_code status_rows (status_code s) ≡ Some s
-unfolding status_rows
-status_back status.No = refl
-status_back status.Nr = refl
-status_back status.Uu = refl
-status_back status.Oo = refl
-
 location_back : (site : List ℕ) → IsTrue (is_location site) → location_at site ≡ Some site
 location_back site h = rw h refl
 
@@ -163,12 +138,12 @@ flood_values f is =
     let d = object (put (codes "status") (as_text (status_code f.status)) (put_times f (put_source f no_members))) in
     values_by d f
     (value_of (codes "site") f.site d location_at f.site refl (location_utf8 f.site is.site) (location_back f.site is.site))
-    (value_of (codes "severity") (severity_code f.severity) d (value_for_code severity_rows) f.severity refl (severity_utf8 f.severity) (severity_back f.severity))
+    (value_of (codes "severity") (severity_code f.severity) d (value_for_code severity_rows) f.severity refl (severity_utf8 f.severity) (severity_found f.severity))
     (value_of (codes "cause") f.cause d (value_for_code cause_rows) f.cause refl (cause_utf8 f.cause is.cause) is.cause)
     (value_of (codes "begin") (time_text f.begin) d time_at f.begin refl (time_utf8 f.begin is.begin) (time_back f.begin is.begin))
     (value_of (codes "crest") (time_text f.crest) d time_at f.crest refl (time_utf8 f.crest is.crest) (time_back f.crest is.crest))
     (value_of (codes "end") (time_text f.end) d time_at f.end refl (time_utf8 f.end is.end) (time_back f.end is.end))
-    (value_of (codes "status") (status_code f.status) d (value_for_code status_rows) f.status refl (status_utf8 f.status) (status_back f.status))
+    (value_of (codes "status") (status_code f.status) d (value_for_code status_rows) f.status refl (status_utf8 f.status) (status_found f.status))
 
 if_known : {X : Type 0} (t : Bool) (o : Option X) (x : X) → t ≡ true → o ≡ Some x → cond t o None ≡ Some x
 if_known t o x known found = rw (known, found) refl

@@ -1,15 +1,12 @@
--- A member that has no float gives an object none.
-use Rattle.std.proofs.Common.{◌≡◌, ◌||◌, ℕ, ℤ, pos, negsuc, List, [], ◌∷◌, Bool, true, false, map, refl, codes}
-use Rattle.std.specs.declared.cmp.Ordering.{Ordering}
-use Rattle.std.specs.declared.cmp.Ordering.TheVariants.{Less, Equal, Greater}
-use Rattle.std.specs.Ordering.{nat_cmp, match_ordering}
-use Rattle.std.specs.Cmp.Lexicographic.{slice_cmp}
-use Rattle.serde_json.specs.Data.{Data, Members, no_members, member, put, number, unsigned}
+-- The members of a refusal have no float.
+use Rattle.std.proofs.Common.{◌≡◌, ℕ, ℤ, pos, negsuc, List, [], ◌∷◌, false, map, refl, codes}
+use Rattle.serde_json.specs.Data.{Data, Members, number}
 use Rattle.serde_json.specs.Find.{of_integer}
 use Rattle.office_types.specs.declared.refusal.Refusal.{Refusal}
 use Rattle.office_types.specs.declared.refusal.Refusal.TheVariants as refusal
-use Rattle.request_json.specs.Canonical.{as_text, put_text, put_number}
-use Rattle.request_json.specs.Replies.{label, labelled, put_zone, put_event_zone, put_clash, put_place_in, put_values}
+use Rattle.json_parts.specs.Written.{put_text, put_zone, labelled}
+use Rattle.json_parts.proofs.Floats.{no_float_put, put_text_no_float, put_number_no_float, labelled_no_float}
+use Rattle.request_json.specs.Replies.{put_event_zone, put_clash, put_place_in, put_values}
 use Rattle.hazard_types.specs.Calendar.{stamp_of}
 use Rattle.hazard_types.specs.Hazards.{hazard_code}
 use Rattle.hazard_types.specs.Names.{zone_text, event_text}
@@ -17,32 +14,6 @@ use Rattle.hazard_types.specs.Places.{Place}
 use Rattle.hazard_types.specs.declared.hazard.Event.{Event}
 use Rattle.serde_json.specs.View.{items_of}
 use Rattle.serde_json.specs.Written.{has_float, items_have_float, members_have_float}
-
-either : (a b : Bool) → (a || b) ≡ false → (a ≡ false) × (b ≡ false)
-either false b h = (refl, h)
-either true b h = absurd (cc)
-
-beside : (o : Ordering) (k l : List ℕ) (d e : Data) (ms : Members) → has_float d ≡ false → has_float e ≡ false → members_have_float ms ≡ false → members_have_float (put k d ms) ≡ false
-    → members_have_float (match_ordering o (member k d (member l e ms)) (member l d ms) (member l e (put k d ms))) ≡ false
-beside Less k l d e ms hd he hm hp = rw (hd, he, hm) refl
-beside Equal k l d e ms hd he hm hp = rw (hd, hm) refl
-beside Greater k l d e ms hd he hm hp = rw (he, hp) refl
-
-pub no_float_put : (k : List ℕ) (d : Data) (ms : Members) → has_float d ≡ false → members_have_float ms ≡ false → members_have_float (put k d ms) ≡ false
-no_float_put k d no_members hd hm = rw hd refl
-no_float_put k d (member l e ms) hd hm =
-    let h = either (has_float e) (members_have_float ms) hm in
-    beside (slice_cmp nat_cmp k l) k l d e ms hd h.0 h.1 (no_float_put k d ms hd h.1)
-
-pub text_no_float : (bytes : List ℕ) → has_float (as_text bytes) ≡ false
-unfolding as_text
-text_no_float bytes = refl
-
-pub put_text_no_float : (k : List ℕ) (bytes : List ℕ) (ms : Members) → members_have_float ms ≡ false → members_have_float (put_text k bytes ms) ≡ false
-put_text_no_float k bytes ms h = no_float_put k (as_text bytes) ms (text_no_float bytes) h
-
-pub put_number_no_float : (k : List ℕ) (n : ℕ) (ms : Members) → members_have_float ms ≡ false → members_have_float (put_number k n ms) ≡ false
-put_number_no_float k n ms h = no_float_put k (number (unsigned n)) ms refl h
 
 signed_no_float : (z : ℤ) → has_float (number (of_integer z)) ≡ false
 signed_no_float (pos n) = refl
@@ -114,11 +85,8 @@ values_no_float (refusal.TooLong bytes) ms h = put_number_no_float (codes "bytes
 values_no_float refusal.ProductsFull ms h = h
 values_no_float refusal.JournalFull ms h = h
 
-pub labelled_no_float : (l : List ℕ × List ℕ) → members_have_float (labelled l) ≡ false
-labelled_no_float l = put_text_no_float (codes "rule") l.1 (put_text (codes "no") l.0 no_members) (put_text_no_float (codes "no") l.0 no_members refl)
-
-pub refusal_no_float : (r : Refusal) → members_have_float (put_values r (labelled (label r))) ≡ false
-refusal_no_float r = values_no_float r (labelled (label r)) (labelled_no_float (label r))
+pub refusal_no_float : (r : Refusal) (l : List ℕ × List ℕ) → members_have_float (put_values r (labelled l)) ≡ false
+refusal_no_float r l = values_no_float r (labelled l) (labelled_no_float l)
 
 -- ---- lists
 

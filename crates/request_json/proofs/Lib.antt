@@ -1,4 +1,3 @@
-pub mod Asking
 pub mod CanonicalFloats
 pub mod CanonicalLines
 pub mod CanonicalPlain
@@ -11,7 +10,6 @@ pub mod Floats
 pub mod KeysKnown
 pub mod PieceLemmas
 pub mod Putting
-pub mod Reading
 pub mod RequestForms
 pub mod RequestsBack
 pub mod ValueTexts

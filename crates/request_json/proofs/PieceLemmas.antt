@@ -19,7 +19,8 @@ use Rattle.office_types.specs.declared.request.SentReply.{SentReply}
 use Rattle.office_types.specs.declared.request.Target.TheVariants as target
 use Rattle.office_types.specs.declared.request.Texts.{Texts}
 use Rattle.office_types.specs.declared.request.Word.{Word}
-use Rattle.request_json.specs.Canonical.{as_text, texts_data, put_put, put_request, asked_members, asked_text}
+use Rattle.json_parts.specs.Written.{as_text}
+use Rattle.request_json.specs.Canonical.{texts_data, put_put, put_request, asked_members, asked_text}
 use Rattle.request_json.specs.Replies.{put_reply, reply_text, word_code}
 use Rattle.request_json.specs.Pieces.{is_plain, string_text, whole_text, zones_text, events_text, texts_text, begin_bytes, end_bytes, area_details, impacts_what, begin_desk, do_end, hazard_seq, texts_zones, draft_ok, place_end, events_ok, product_time}
 

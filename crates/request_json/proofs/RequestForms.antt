@@ -10,7 +10,7 @@ use Rattle.serde_json.specs.View.{view}
 use Rattle.serde_json.specs.declared.value.Value.{Value}
 use Rattle.hazard_types.specs.Given.{◌>>=◌, Gives}
 use Rattle.hazard_types.specs.Names.{hazard_at, event_at}
-use Rattle.hazard_types.specs.Places.{Place, IsPlace}
+use Rattle.hazard_types.specs.Places.{Place}
 use Rattle.hazard_types.specs.declared.hazard.Event.{Event}
 use Rattle.hazard_types.specs.declared.hazard.Hazard.{Hazard}
 use Rattle.hazard_types.specs.declared.line.Flood.{Flood}
@@ -18,7 +18,6 @@ use Rattle.hazard_types.specs.declared.or.Or.{Or}
 use Rattle.hazard_types.specs.declared.period.Begin.{Begin}
 use Rattle.hazard_types.specs.declared.period.End.{End}
 use Rattle.office_types.specs.declared.refusal.Refusal.{Refusal}
-use Rattle.office_types.specs.declared.refusal.Refusal.TheVariants.{WrongShape}
 use Rattle.office_types.specs.declared.request.EventPart.{EventPart}
 use Rattle.office_types.specs.declared.request.EventTexts.{EventTexts}
 use Rattle.office_types.specs.declared.request.PutPart.{PutPart}
@@ -28,17 +27,18 @@ use Rattle.office_types.specs.declared.request.RoutinePart.{RoutinePart}
 use Rattle.office_types.specs.declared.request.Target.{Target}
 use Rattle.office_types.specs.declared.request.Target.TheVariants as target
 use Rattle.office_types.specs.declared.request.Texts.{Texts}
-use Rattle.request_json.specs.Fields.{begin_at, end_at, desk_named, if_counted, number_at, zones_of, flood_of, each_event_texts}
-use Rattle.request_json.specs.Form.{given, desk_field, seq_field, verb_field, category_field, number_field, hazard_field, event_field, zones_field, begin_field, end_field, flood_or_none, flood_field, no_texts, texts_or_empty, texts_field, event_texts_or_none, event_texts_field, target_given, target_field, put_on, issue_part, put_part, event_part, routine_part, draft_in, draft_request, request_in, asked_in, is_issue, training_issue_in}
+use Rattle.json_parts.specs.Json.{given, text_at, zones_field}
+use Rattle.json_parts.proofs.Zones.{zones_form}
+use Rattle.request_json.specs.Fields.{begin_at, end_at, desk_named, if_counted, number_at, flood_of, each_event_texts}
+use Rattle.request_json.specs.Form.{desk_field, seq_field, verb_field, category_field, number_field, hazard_field, event_field, begin_field, end_field, flood_or_none, flood_field, no_texts, texts_or_empty, texts_field, event_texts_or_none, event_texts_field, target_given, target_field, put_on, issue_part, put_part, on_event, of_hazard, event_part, routine_part, draft_in, draft_request, request_in, asked_in, is_issue, training_issue_in}
 use Rattle.request_json.specs.Formed.{IsNumber, IsHazard, IsEvent, AreTexts, AreEventTexts, AreFloodValues, IsBegin, IsEnd, IsTarget, IsFresh, IsPutPart, IsIssuePart, IsEventPart, IsRoutinePart, HasRequestForm, HasForm}
-use Rattle.request_json.specs.Json.{text_at}
 use Rattle.request_json.specs.Keys.{keys_of, all_known}
 use Rattle.request_json.specs.declared.keys.Keys.TheVariants as keys
 use Rattle.request_json.specs.declared.asked.Asked.{Asked}
 use Rattle.request_json.specs.declared.keys.Verb.{Verb}
 use Rattle.request_json.specs.declared.keys.Verb.TheVariants as verb
-use Rattle.request_json.proofs.Asking.{then_ok, unless_ok, ok_or_ok, and_then_some, map_some}
-use Rattle.request_json.proofs.FieldForms.{number_form, counted_form, desk_form, hazard_form, event_form, zones_form, begin_form, end_form, flood_form, found_texts, texts_form, list_form}
+use Rattle.hazard_types.proofs.Inverting.{then_ok, unless_ok, ok_or_ok, and_then_some, map_some}
+use Rattle.request_json.proofs.FieldForms.{number_form, counted_form, desk_form, hazard_form, event_form, begin_form, end_form, flood_form, found_texts, texts_form, list_form}
 use Rattle.request_json.proofs.ValueTexts.{HasTexts, ItemsHaveTexts, view_texts}
 
 same_Ok : {X E : Type 0} (x y : X) → ◌≡◌ {A = Result X E} (Ok x) (Ok y) → x ≡ y
@@ -46,7 +46,7 @@ same_Ok x y h = cc
 
 -- what a field that is there says
 given_ok : {X : Type 0} (o : Option X) (name : List ℕ) (x : X) → given o name ≡ Ok x → o ≡ Some x
-given_ok o name x h = ok_or_ok o (WrongShape name) x h
+given_ok o name x h = ok_or_ok o name x h
 
 -- and what it was read from
 read_from : {X : Type 0} (o : Option (List ℕ)) (f : List ℕ → Option X) (name : List ℕ) (x : X) → given (option_and_then f o) name ≡ Ok x → (text : List ℕ) × (f text ≡ Some x)
@@ -66,12 +66,6 @@ begin_ok d x h = let a = read_from (text_at (codes "begin") d) begin_at (codes "
 
 end_ok : (d : Data) (x : End) → end_field d ≡ Ok x → IsEnd x
 end_ok d x h = let a = read_from (text_at (codes "end") d) end_at (codes "end") x h in end_form a.0 x a.1
-
-zones_ok : (d : Data) (zs : List Place) → zones_field d ≡ Ok zs → All IsPlace zs
-zones_ok d zs h =
-    let o = option_and_then as_array (get (codes "zones") d) in
-    let a = and_then_some o zones_of zs (given_ok (option_and_then zones_of o) (codes "zones") zs h) in
-    zones_form a.0 zs a.2
 
 flood_by : (o : Option Data) (x : Option Flood) → flood_or_none o ≡ Some x → IfSome x AreFloodValues
 flood_by None x h = subst (λ (y : Option Flood). IfSome y AreFloodValues) (same_Some None x h) tt
@@ -117,7 +111,7 @@ target_by None (Some y) d t h =
 
 -- ---- parts
 
-put_chain : (t : Target) (zones : Result (List Place) Refusal) (begin : Result Begin Refusal) (end : Result End Refusal) (flood : Result (Option Flood) Refusal) (texts : Result Texts Refusal) (p : PutPart)
+put_chain : (t : Target) (zones : Result (List Place) (List ℕ)) (begin : Result Begin (List ℕ)) (end : Result End (List ℕ)) (flood : Result (Option Flood) (List ℕ)) (texts : Result Texts (List ℕ)) (p : PutPart)
     → (zones >>= λ zones. begin >>= λ begin. end >>= λ end. flood >>= λ flood. texts >>= λ texts. Ok (record { target = t; zones = zones; begin = begin; end = end; flood = flood; texts = texts })) ≡ Ok p
     → (zones ≡ Ok p.zones) × (begin ≡ Ok p.begin) × (end ≡ Ok p.end) × (flood ≡ Ok p.flood) × (texts ≡ Ok p.texts) × (t ≡ p.target)
 put_chain t (Err e) begin end flood texts p h = absurd (cc)
@@ -134,7 +128,7 @@ put_ok : (t : Target) (d : Data) (p : PutPart) → HasTexts d → IsTarget t →
 unfolding put_on
 put_ok t d p has is h =
     let c = put_chain t (zones_field d) (begin_field d) (end_field d) (flood_field d) (texts_field d) p h in
-    (record { target = subst IsTarget c.5 is; zones = zones_ok d p.zones c.0; begin = begin_ok d p.begin c.1; end = end_ok d p.end c.2; flood = flood_ok d p.flood c.3; texts = texts_ok d p.texts has c.4 }, c.5)
+    (record { target = subst IsTarget c.5 is; zones = zones_form d p.zones c.0; begin = begin_ok d p.begin c.1; end = end_ok d p.end c.2; flood = flood_ok d p.flood c.3; texts = texts_ok d p.texts has c.4 }, c.5)
 
 issue_ok : (d : Data) (p : PutPart) → HasTexts d → issue_part d ≡ Ok p → IsIssuePart p
 unfolding issue_part
@@ -149,41 +143,29 @@ part_ok d p has h =
     let a = then_ok (target_field d) (λ t. put_on t d) p h in
     (put_ok a.0 d p has (target_by (get (codes "hazard") d) (get (codes "event") d) d a.0 a.1) a.2).0
 
-event_chain : (event : Result Event Refusal) (zones : Result (List Place) Refusal) (texts : Result Texts Refusal) (p : EventPart)
-    → (event >>= λ event. zones >>= λ zones. texts >>= λ texts. Ok (record { event = event; zones = zones; texts = texts })) ≡ Ok p → (event ≡ Ok p.event) × (zones ≡ Ok p.zones) × (texts ≡ Ok p.texts)
-event_chain (Err e) zones texts p h = absurd (cc)
-event_chain (Ok a) (Err e) texts p h = absurd (cc)
-event_chain (Ok a) (Ok z) (Err e) p h = absurd (cc)
-event_chain (Ok a) (Ok z) (Ok t) p h =
-    let made : EventPart = record { event = a; zones = z; texts = t } in
-    let same : made ≡ p = same_Ok made p h in
-    (ap (λ (y : EventPart). Ok y.event) same, ap (λ (y : EventPart). Ok y.zones) same, ap (λ (y : EventPart). Ok y.texts) same)
+part_chain : {A P : Type 0} (make : A → List Place → Texts → P) (first : Result A (List ℕ)) (zones : Result (List Place) (List ℕ)) (texts : Result Texts (List ℕ)) (p : P)
+    → (first >>= λ value. zones >>= λ zones. texts >>= λ texts. Ok (make value zones texts)) ≡ Ok p
+    → (a : A) × (zs : List Place) × (ts : Texts) × (first ≡ Ok a) × (zones ≡ Ok zs) × (texts ≡ Ok ts) × (make a zs ts ≡ p)
+part_chain make (Err e) zones texts p h = absurd (cc)
+part_chain make (Ok a) (Err e) texts p h = absurd (cc)
+part_chain make (Ok a) (Ok z) (Err e) p h = absurd (cc)
+part_chain make (Ok a) (Ok z) (Ok t) p h = (a, z, t, refl, refl, refl, same_Ok (make a z t) p h)
 
 event_part_ok : (d : Data) (p : EventPart) → HasTexts d → event_part d ≡ Ok p → IsEventPart p
 unfolding event_part
 event_part_ok d p has h =
-    let c = event_chain (event_field d) (zones_field d) (texts_field d) p h in
-    record { event = event_ok d p.event c.0; zones = zones_ok d p.zones c.1; texts = texts_ok d p.texts has c.2 }
-
-routine_chain : (hazard : Result Hazard Refusal) (zones : Result (List Place) Refusal) (texts : Result Texts Refusal) (p : RoutinePart)
-    → (hazard >>= λ hazard. zones >>= λ zones. texts >>= λ texts. Ok (record { hazard = hazard; zones = zones; texts = texts })) ≡ Ok p → (hazard ≡ Ok p.hazard) × (zones ≡ Ok p.zones) × (texts ≡ Ok p.texts)
-routine_chain (Err e) zones texts p h = absurd (cc)
-routine_chain (Ok a) (Err e) texts p h = absurd (cc)
-routine_chain (Ok a) (Ok z) (Err e) p h = absurd (cc)
-routine_chain (Ok a) (Ok z) (Ok t) p h =
-    let made : RoutinePart = record { hazard = a; zones = z; texts = t } in
-    let same : made ≡ p = same_Ok made p h in
-    (ap (λ (y : RoutinePart). Ok y.hazard) same, ap (λ (y : RoutinePart). Ok y.zones) same, ap (λ (y : RoutinePart). Ok y.texts) same)
+    let c = part_chain on_event (event_field d) (zones_field d) (texts_field d) p h in
+    subst IsEventPart c.6 (record { event = event_ok d c.0 c.3; zones = zones_form d c.1 c.4; texts = texts_ok d c.2 has c.5 })
 
 routine_ok : (d : Data) (p : RoutinePart) → HasTexts d → routine_part d ≡ Ok p → IsRoutinePart p
 unfolding routine_part
 routine_ok d p has h =
-    let c = routine_chain (hazard_field d) (zones_field d) (texts_field d) p h in
-    record { hazard = hazard_ok d p.hazard c.0; zones = zones_ok d p.zones c.1; texts = texts_ok d p.texts has c.2 }
+    let c = part_chain of_hazard (hazard_field d) (zones_field d) (texts_field d) p h in
+    subst IsRoutinePart c.6 (record { hazard = hazard_ok d c.0 c.3; zones = zones_form d c.1 c.4; texts = texts_ok d c.2 has c.5 })
 
 -- ---- requests
 
-send_ok : (n : ℕ) (r : Request) → IsNumber n → ◌≡◌ {A = Result Request Refusal} (Ok (request.Send n)) (Ok r) → HasRequestForm r
+send_ok : (n : ℕ) (r : Request) → IsNumber n → ◌≡◌ {A = Result Request (List ℕ)} (Ok (request.Send n)) (Ok r) → HasRequestForm r
 send_ok n r small h = subst HasRequestForm (same_Ok (request.Send n) r h) small
 
 in_draft : (v : Verb) (n : ℕ) (d : Data) (r : Request) → IsNumber n → HasTexts d → draft_in v n d ≡ Ok r → HasRequestForm r
@@ -227,7 +209,7 @@ if_ok : {X E : Type 0} (t : Bool) (x : X) (e : E) (y : X) → ◌≡◌ {A = Res
 if_ok true x e y h = same_Ok x y h
 if_ok false x e y h = absurd (cc)
 
-asked_chain : (whole : Result Members Refusal) (desk : Result (List ℕ) Refusal) (seq : Result ℕ Refusal) (does : Result Verb Refusal) (asks : Verb → Result Request Refusal) (known : Verb → Members → Bool) (e : Refusal) (a : Asked)
+asked_chain : (whole : Result Members (List ℕ)) (desk : Result (List ℕ) (List ℕ)) (seq : Result ℕ (List ℕ)) (does : Result Verb (List ℕ)) (asks : Verb → Result Request (List ℕ)) (known : Verb → Members → Bool) (e : List ℕ) (a : Asked)
     → (whole >>= λ ms. desk >>= λ desk. seq >>= λ seq. does >>= λ v. asks v >>= λ r. cond (known v ms) (Ok (record { desk = desk; seq = seq; request = r })) (Err e)) ≡ Ok a
     → (desk ≡ Ok a.desk) × (seq ≡ Ok a.seq) × ((v : Verb) × (asks v ≡ Ok a.request))
 asked_chain (Err o) desk seq does asks known e a h = absurd (cc)
@@ -243,7 +225,7 @@ asked_chain (Ok ms) (Ok d) (Ok s) (Ok v) asks known e a h =
 asked_ok : (d : Data) (a : Asked) → HasTexts d → asked_in d ≡ Ok a → HasForm a
 unfolding asked_in
 asked_ok d a has h =
-    let c = asked_chain (given (as_object d) (codes ".")) (desk_field d) (seq_field d) (verb_field d) (λ v. request_in v d) (λ v ms. all_known (keys_of v) ms) (WrongShape (codes "?")) a h in
+    let c = asked_chain (given (as_object d) (codes ".")) (desk_field d) (seq_field d) (verb_field d) (λ v. request_in v d) (λ v ms. all_known (keys_of v) ms) (codes "?") a h in
     let seq = counted_form (number_at (codes "seq") d) a.seq (given_ok (option_and_then if_counted (number_at (codes "seq") d)) (codes "seq") a.seq c.1) in
     record {
       desk = desk_form (text_at (codes "desk") d) a.desk (given_ok (option_and_then desk_named (text_at (codes "desk") d)) (codes "desk") a.desk c.0);
@@ -252,26 +234,31 @@ asked_ok d a has h =
       request = request_ok c.2.0 d a.request has c.2.1;
     }
 
-answers_by : (r : Result Asked (Or Refusal)) (d : Data) → HasTexts d → Gives r (asked_in d) → IfOk r HasForm
+answers_by : (r : Result Asked (Or (List ℕ))) (d : Data) → HasTexts d → Gives r (asked_in d) → IfOk r HasForm
 answers_by (Ok a) d has h = asked_ok d a has h
 answers_by (Err e) d has h = tt
 
--- what is read of a value has the form
-pub answers_have_form : (v : Value) (r : Result Asked (Or Refusal)) → Gives r (asked_in (view v)) → IfOk r HasForm
-answers_have_form v r h = answers_by r (view v) (view_texts v) h
+-- what was read is told as it is
+kept_form : {X : Type 0} (Good : X → Type 0) (read : Result X (Or (List ℕ))) (r : Result X (Or Refusal)) → IfOk read Good → IfOk r (λ found. read ≡ Ok found) → IfOk r Good
+kept_form {X} Good read (Ok x) good kept = subst (λ (o : Result X (Or (List ℕ))). IfOk o Good) kept good
+kept_form Good read (Err e) good kept = tt
+
+-- what is read of a value and told has the form
+pub answers_have_form : (v : Value) (read : Result Asked (Or (List ℕ))) (r : Result Asked (Or Refusal)) → Gives read (asked_in (view v)) → IfOk r (λ found. read ≡ Ok found) → IfOk r HasForm
+answers_have_form v read r h kept = kept_form HasForm read r (answers_by read (view v) (view_texts v) h) kept
 
 training_ok : (d : Data) (p : PutPart) → HasTexts d → training_issue_in d ≡ Ok p → IsIssuePart p
 unfolding training_issue_in
 training_ok d p has h =
     let known = λ (ms : Members). all_known keys.Training ms in
-    let a = then_ok (given (as_object d) (codes ".")) (λ ms. cond (not (is_issue (text_at (codes "do") d))) (Err (WrongShape (codes "do"))) (issue_part d >>= λ part. cond (known ms) (Ok part) (Err (WrongShape (codes "?"))))) p h in
-    let b = unless_ok (not (is_issue (text_at (codes "do") d))) (WrongShape (codes "do")) (issue_part d >>= λ part. cond (known a.0) (Ok part) (Err (WrongShape (codes "?")))) p a.2 in
-    let c = then_ok (issue_part d) (λ part. cond (known a.0) (Ok part) (Err (WrongShape (codes "?")))) p b.1 in
-    subst IsIssuePart (if_ok (known a.0) c.0 (WrongShape (codes "?")) p c.2) (issue_ok d c.0 has c.1)
+    let a = then_ok (given (as_object d) (codes ".")) (λ ms. cond (not (is_issue (text_at (codes "do") d))) (Err (codes "do")) (issue_part d >>= λ part. cond (known ms) (Ok part) (Err (codes "?")))) p h in
+    let b = unless_ok (not (is_issue (text_at (codes "do") d))) (codes "do") (issue_part d >>= λ part. cond (known a.0) (Ok part) (Err (codes "?"))) p a.2 in
+    let c = then_ok (issue_part d) (λ part. cond (known a.0) (Ok part) (Err (codes "?"))) p b.1 in
+    subst IsIssuePart (if_ok (known a.0) c.0 (codes "?") p c.2) (issue_ok d c.0 has c.1)
 
-training_by : (r : Result PutPart (Or Refusal)) (d : Data) → HasTexts d → Gives r (training_issue_in d) → IfOk r IsIssuePart
+training_by : (r : Result PutPart (Or (List ℕ))) (d : Data) → HasTexts d → Gives r (training_issue_in d) → IfOk r IsIssuePart
 training_by (Ok p) d has h = training_ok d p has h
 training_by (Err e) d has h = tt
 
-pub issues_have_form : (v : Value) (r : Result PutPart (Or Refusal)) → Gives r (training_issue_in (view v)) → IfOk r IsIssuePart
-issues_have_form v r h = training_by r (view v) (view_texts v) h
+pub issues_have_form : (v : Value) (read : Result PutPart (Or (List ℕ))) (r : Result PutPart (Or Refusal)) → Gives read (training_issue_in (view v)) → IfOk r (λ found. read ≡ Ok found) → IfOk r IsIssuePart
+issues_have_form v read r h kept = kept_form IsIssuePart read r (training_by read (view v) (view_texts v) h) kept

@@ -21,7 +21,6 @@ use Rattle.hazard_types.specs.declared.period.Begin.{Begin}
 use Rattle.hazard_types.specs.declared.period.Begin.TheVariants as begin
 use Rattle.hazard_types.specs.declared.period.End.{End}
 use Rattle.hazard_types.specs.declared.period.End.TheVariants as end
-use Rattle.office_types.specs.declared.refusal.Refusal.{Refusal}
 use Rattle.office_types.specs.declared.request.EventPart.{EventPart}
 use Rattle.office_types.specs.declared.request.EventTexts.{EventTexts}
 use Rattle.office_types.specs.declared.request.PutPart.{PutPart}
@@ -32,10 +31,13 @@ use Rattle.office_types.specs.declared.request.Target.{Target}
 use Rattle.office_types.specs.declared.request.Target.TheVariants as target
 use Rattle.office_types.specs.declared.request.Texts.{Texts}
 use Rattle.hazard_types.proofs.NamesBack.{category_back}
-use Rattle.request_json.specs.Canonical.{as_text, put_text, zone_items, texts_data, flood_data, event_texts_items, put_begin, put_end, put_flood, put_target, put_zones_texts, put_put, put_event_part, put_routine, put_do, put_draft, put_request, asked_members, asked_text}
-use Rattle.request_json.specs.Fields.{begin_at, end_at, desk_named, if_counted, zones_of}
-use Rattle.request_json.specs.Form.{given, desk_field, seq_field, verb_field, category_field, number_field, hazard_field, event_field, zones_field, begin_field, end_field, flood_or_none, flood_field, texts_or_empty, texts_field, event_texts_or_none, event_texts_field, target_given, target_field, put_on, issue_part, put_part, event_part, routine_part, draft_in, draft_request, request_in, asked_in, asked_of}
+use Rattle.json_parts.specs.Json.{zones_of, given, zones_field}
+use Rattle.json_parts.specs.Written.{as_text, put_text}
+use Rattle.request_json.specs.Canonical.{zone_items, texts_data, flood_data, event_texts_items, put_begin, put_end, put_flood, put_target, put_zones_texts, put_put, put_event_part, put_routine, put_do, put_draft, put_request, asked_members, asked_text}
+use Rattle.request_json.specs.Fields.{begin_at, end_at, desk_named, if_counted}
+use Rattle.request_json.specs.Form.{desk_field, seq_field, verb_field, category_field, number_field, hazard_field, event_field, begin_field, end_field, flood_or_none, flood_field, texts_or_empty, texts_field, event_texts_or_none, event_texts_field, target_given, target_field, put_on, issue_part, put_part, event_part, routine_part, draft_in, draft_request, request_in, asked_in, told, asked_of}
 use Rattle.request_json.specs.Formed.{IsNumber, IsHazard, IsEvent, AreTexts, AreEventTexts, AreFloodValues, IsBegin, IsEnd, IsTarget, IsFresh, IsPutPart, IsEventPart, IsRoutinePart, HasRequestForm, HasForm}
+use Rattle.request_json.specs.Pieces.{begin_bytes, end_bytes}
 use Rattle.request_json.specs.Keys.{verb_at, keys_of, has_key, all_known}
 use Rattle.request_json.specs.declared.asked.Asked.{Asked}
 use Rattle.request_json.specs.declared.keys.Keys.{Keys}
@@ -45,7 +47,7 @@ use Rattle.request_json.specs.declared.keys.Verb.TheVariants as verb
 use Rattle.request_json.proofs.CanonicalPlain.{asked_plain}
 use Rattle.request_json.proofs.CanonicalUtf8.{stamp_utf8, desk_utf8, hazard_utf8, event_utf8, category_utf8}
 use Rattle.request_json.proofs.CompactReading.{reads_back, utf8_text}
-use Rattle.request_json.proofs.FieldsBack.{begin_text, end_text, value_of, number_back, counted_back, desk_back, begin_back, end_back, hazard_reads, event_reads, zones_back, flood_back, texts_back, list_back}
+use Rattle.request_json.proofs.FieldsBack.{value_of, number_back, counted_back, desk_back, begin_back, end_back, hazard_reads, event_reads, zones_back, flood_back, texts_back, list_back}
 use Rattle.request_json.proofs.Putting.{order, here, beside, known_put}
 use Rattle.json.proofs.Printed.Utf8.{are_ascii, IsUtf8-are_ascii}
 
@@ -58,19 +60,19 @@ given_back o x name h = rw h refl
 
 -- ---- the fields of a part, wherever it stands
 
-begin_is : (b : Begin) (ms : Members) → put_begin b ms ≡ put_text (codes "begin") (begin_text b) ms
+begin_is : (b : Begin) (ms : Members) → put_begin b ms ≡ put_text (codes "begin") (begin_bytes b) ms
 begin_is begin.Now ms = refl
 begin_is (begin.At m) ms = refl
 
-end_is : (e : End) (ms : Members) → put_end e ms ≡ put_text (codes "end") (end_text e) ms
+end_is : (e : End) (ms : Members) → put_end e ms ≡ put_text (codes "end") (end_bytes e) ms
 end_is end.Ufn ms = refl
 end_is (end.At m) ms = refl
 
-begin_utf8 : (b : Begin) → IsBegin b → IsUtf8 (begin_text b)
+begin_utf8 : (b : Begin) → IsBegin b → IsUtf8 (begin_bytes b)
 begin_utf8 begin.Now h = IsUtf8-are_ascii _ refl
 begin_utf8 (begin.At m) h = stamp_utf8 m h
 
-end_utf8 : (e : End) → IsEnd e → IsUtf8 (end_text e)
+end_utf8 : (e : End) → IsEnd e → IsUtf8 (end_bytes e)
 end_utf8 end.Ufn h = IsUtf8-are_ascii _ refl
 end_utf8 (end.At m) h = stamp_utf8 m h
 
@@ -83,10 +85,10 @@ beside_flood k None ms h = refl
 beside_flood k (Some f) ms h = beside k (codes "flood") (flood_data f) ms h
 
 beside_begin : (k : List ℕ) (b : Begin) (ms : Members) → AreApart k (codes "begin") → get_member k (put_begin b ms) ≡ get_member k ms
-beside_begin k b ms h = ap (get_member k) (begin_is b ms) ∙ beside k (codes "begin") (as_text (begin_text b)) ms h
+beside_begin k b ms h = ap (get_member k) (begin_is b ms) ∙ beside k (codes "begin") (as_text (begin_bytes b)) ms h
 
 beside_end : (k : List ℕ) (e : End) (ms : Members) → AreApart k (codes "end") → get_member k (put_end e ms) ≡ get_member k ms
-beside_end k e ms h = ap (get_member k) (end_is e ms) ∙ beside k (codes "end") (as_text (end_text e)) ms h
+beside_end k e ms h = ap (get_member k) (end_is e ms) ∙ beside k (codes "end") (as_text (end_bytes e)) ms h
 
 beside_target : (k : List ℕ) (t : Target) (ms : Members) → AreApart k (codes "hazard") → AreApart k (codes "event") → get_member k (put_target t ms) ≡ get_member k ms
 beside_target k (target.Fresh h) ms hazard event = beside k (codes "hazard") (as_text (hazard_code h)) ms hazard
@@ -109,11 +111,11 @@ zones_read zs d is found = given_back _ zs (codes "zones") (ap (λ o. option_and
 texts_read : (t : Texts) (d : Data) → AreTexts t → get (codes "texts") d ≡ Some (texts_data t) → texts_field d ≡ Ok t
 texts_read t d is found = given_back _ t (codes "texts") (ap texts_or_empty found ∙ texts_back t is)
 
-begin_read : (b : Begin) (d : Data) → IsBegin b → get (codes "begin") d ≡ Some (as_text (begin_text b)) → begin_field d ≡ Ok b
-begin_read b d is found = given_back _ b (codes "begin") (value_of (codes "begin") (begin_text b) d begin_at b found (begin_utf8 b is) (begin_back b is))
+begin_read : (b : Begin) (d : Data) → IsBegin b → get (codes "begin") d ≡ Some (as_text (begin_bytes b)) → begin_field d ≡ Ok b
+begin_read b d is found = given_back _ b (codes "begin") (value_of (codes "begin") (begin_bytes b) d begin_at b found (begin_utf8 b is) (begin_back b is))
 
-end_read : (e : End) (d : Data) → IsEnd e → get (codes "end") d ≡ Some (as_text (end_text e)) → end_field d ≡ Ok e
-end_read e d is found = given_back _ e (codes "end") (value_of (codes "end") (end_text e) d end_at e found (end_utf8 e is) (end_back e is))
+end_read : (e : End) (d : Data) → IsEnd e → get (codes "end") d ≡ Some (as_text (end_bytes e)) → end_field d ≡ Ok e
+end_read e d is found = given_back _ e (codes "end") (value_of (codes "end") (end_bytes e) d end_at e found (end_utf8 e is) (end_back e is))
 
 flood_of_none : (o : Option Flood) → IfSome o AreFloodValues → flood_or_none (option_map flood_data o) ≡ Some o
 flood_of_none None is = refl
@@ -136,8 +138,8 @@ number_read key n d small found = given_back _ n key (number_back key n d found 
 -- the members of a part stand in the data
 pub record HasPart (d : Data) (p : PutPart) : Type 0 where
   pub zones : get (codes "zones") d ≡ Some (array (zone_items p.zones))
-  pub begin : get (codes "begin") d ≡ Some (as_text (begin_text p.begin))
-  pub end : get (codes "end") d ≡ Some (as_text (end_text p.end))
+  pub begin : get (codes "begin") d ≡ Some (as_text (begin_bytes p.begin))
+  pub end : get (codes "end") d ≡ Some (as_text (end_bytes p.end))
   pub flood : get (codes "flood") d ≡ option_map flood_data p.flood
   pub texts : get (codes "texts") d ≡ Some (texts_data p.texts)
 
@@ -162,11 +164,11 @@ unfolding put_put
 below_part k p ms flood end begin texts zones =
     below_times k p (put_zones_texts p.zones p.texts (put_target p.target ms)) flood end begin ∙ beside_zones_texts k p.zones p.texts (put_target p.target ms) texts zones
 
-begin_here : (b : Begin) (ms : Members) → get_member (codes "begin") (put_begin b ms) ≡ Some (as_text (begin_text b))
-begin_here b ms = ap (get_member (codes "begin")) (begin_is b ms) ∙ here (codes "begin") (as_text (begin_text b)) ms
+begin_here : (b : Begin) (ms : Members) → get_member (codes "begin") (put_begin b ms) ≡ Some (as_text (begin_bytes b))
+begin_here b ms = ap (get_member (codes "begin")) (begin_is b ms) ∙ here (codes "begin") (as_text (begin_bytes b)) ms
 
-end_here : (e : End) (ms : Members) → get_member (codes "end") (put_end e ms) ≡ Some (as_text (end_text e))
-end_here e ms = ap (get_member (codes "end")) (end_is e ms) ∙ here (codes "end") (as_text (end_text e)) ms
+end_here : (e : End) (ms : Members) → get_member (codes "end") (put_end e ms) ≡ Some (as_text (end_bytes e))
+end_here e ms = ap (get_member (codes "end")) (end_is e ms) ∙ here (codes "end") (as_text (end_bytes e)) ms
 
 part_has : (p : PutPart) (ms : Members) (d : Data) → HasMembers d (put_put p ms) → get_member (codes "flood") ms ≡ None → HasPart d p
 unfolding put_put
@@ -192,11 +194,11 @@ target_read : (t : Target) (ms : Members) (d : Data) → IsTarget t → get (cod
 target_read (target.Fresh h) ms d is hazard event no_hazard no_event =
     let one : get (codes "hazard") d ≡ Some (as_text (hazard_code h)) = hazard ∙ here (codes "hazard") (as_text (hazard_code h)) ms in
     let two : get (codes "event") d ≡ None = event ∙ beside (codes "event") (codes "hazard") (as_text (hazard_code h)) ms refl ∙ no_event in
-    target_by (Some (as_text (hazard_code h))) None d one two ∙ ap (λ (r : Result Hazard Refusal). r >>= λ hazard. Ok (target.Fresh hazard)) (hazard_read h d is one)
+    target_by (Some (as_text (hazard_code h))) None d one two ∙ ap (λ (r : Result Hazard (List ℕ)). r >>= λ hazard. Ok (target.Fresh hazard)) (hazard_read h d is one)
 target_read (target.Join e) ms d is hazard event no_hazard no_event =
     let one : get (codes "event") d ≡ Some (as_text (event_text e)) = event ∙ here (codes "event") (as_text (event_text e)) ms in
     let two : get (codes "hazard") d ≡ None = hazard ∙ beside (codes "hazard") (codes "event") (as_text (event_text e)) ms refl ∙ no_hazard in
-    target_by None (Some (as_text (event_text e))) d two one ∙ ap (λ (r : Result Event Refusal). r >>= λ event. Ok (target.Join event)) (event_read e d is one)
+    target_by None (Some (as_text (event_text e))) d two one ∙ ap (λ (r : Result Event (List ℕ)). r >>= λ event. Ok (target.Join event)) (event_read e d is one)
 
 part_read : (p : PutPart) (ms : Members) (d : Data) → IsPutPart p → HasMembers d (put_put p ms) → get_member (codes "flood") ms ≡ None → get_member (codes "hazard") ms ≡ None → get_member (codes "event") ms ≡ None → put_part d ≡ Ok p
 unfolding put_part
@@ -234,10 +236,10 @@ known_flood ks None ms key h = h
 known_flood ks (Some f) ms key h = known_put ks (codes "flood") (flood_data f) ms key h
 
 known_begin : (ks : Keys) (b : Begin) (ms : Members) → has_key ks (codes "begin") ≡ true → all_known ks ms ≡ true → all_known ks (put_begin b ms) ≡ true
-known_begin ks b ms key h = ap (all_known ks) (begin_is b ms) ∙ known_put ks (codes "begin") (as_text (begin_text b)) ms key h
+known_begin ks b ms key h = ap (all_known ks) (begin_is b ms) ∙ known_put ks (codes "begin") (as_text (begin_bytes b)) ms key h
 
 known_end : (ks : Keys) (e : End) (ms : Members) → has_key ks (codes "end") ≡ true → all_known ks ms ≡ true → all_known ks (put_end e ms) ≡ true
-known_end ks e ms key h = ap (all_known ks) (end_is e ms) ∙ known_put ks (codes "end") (as_text (end_text e)) ms key h
+known_end ks e ms key h = ap (all_known ks) (end_is e ms) ∙ known_put ks (codes "end") (as_text (end_bytes e)) ms key h
 
 known_part : (ks : Keys) (p : PutPart) (ms : Members) → has_key ks (codes "flood") ≡ true → has_key ks (codes "end") ≡ true → has_key ks (codes "begin") ≡ true → has_key ks (codes "texts") ≡ true → has_key ks (codes "zones") ≡ true
     → all_known ks (put_target p.target ms) ≡ true → all_known ks (put_put p ms) ≡ true
@@ -377,7 +379,7 @@ asked_back a is =
     let has = asked_has a in
     asked_by (asked_members a) a (verb_of a.request) (desk_read a is) (seq_read a is) (verb_read a.request (object (asked_members a)) has) (request_read a.request (object (asked_members a)) is.request has) (asked_known a is.request)
 
-asked_from : (bytes : List ℕ) (d : Data) → IsUtf8 bytes → read bytes ≡ Some d → asked_of bytes ≡ asked_in d
+asked_from : (bytes : List ℕ) (d : Data) → IsUtf8 bytes → read bytes ≡ Some d → asked_of bytes ≡ told (asked_in d)
 unfolding asked_of
 asked_from bytes d utf8 reads = rw (is_utf8-from_IsUtf8 bytes utf8, reads) refl
 
@@ -386,4 +388,4 @@ unfolding asked_text
 text_reads_back a is =
     let d = object (asked_members a) in
     let plain = asked_plain a 0 is in
-    asked_from (compact_text d) d (utf8_text d 4 plain) (reads_back d 4 plain (omega arith)) ∙ asked_back a is
+    asked_from (compact_text d) d (utf8_text d 4 plain) (reads_back d 4 plain (omega arith)) ∙ ap (λ (r : Result Asked (List ℕ)). told r) (asked_back a is)

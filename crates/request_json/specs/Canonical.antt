@@ -1,7 +1,6 @@
 -- Canonical texts of requests: compact JSON. `put` keeps members in byte order of their keys.
 use Rattle.std.specs.Prelude.{ℕ, List, map, Option, Some, None, codes}
-use Rattle.std.specs.Str.Lossy.{utf8_lossy}
-use Rattle.serde_json.specs.Data.{Data, number, unsigned, string, array, object, Items, Members, no_members, put}
+use Rattle.serde_json.specs.Data.{Data, array, object, Items, Members, no_members, put}
 use Rattle.serde_json.specs.View.{items_of}
 use Rattle.serde_json.specs.Written.{compact_text}
 use Rattle.hazard_types.specs.Calendar.{stamp_of}
@@ -27,18 +26,8 @@ use Rattle.office_types.specs.declared.request.RoutinePart.{RoutinePart}
 use Rattle.office_types.specs.declared.request.Target.{Target}
 use Rattle.office_types.specs.declared.request.Target.TheVariants as target
 use Rattle.office_types.specs.declared.request.Texts.{Texts}
+use Rattle.json_parts.specs.Written.{as_text, put_text, put_number}
 use Rattle.request_json.specs.declared.asked.Asked.{Asked}
-
--- bytes as a string; those that are not UTF-8 become replacement characters
-unfoldable pub as_text : List ℕ → Data
-as_text bytes = string (utf8_lossy bytes)
-
--- the members with one more, a string
-abbrev pub put_text : List ℕ → List ℕ → Members → Members
-put_text key bytes ms = put key (as_text bytes) ms
-
-abbrev pub put_number : List ℕ → ℕ → Members → Members
-put_number key n ms = put key (number (unsigned n)) ms
 
 abbrev pub put_begin : Begin → Members → Members
 put_begin begin.Now ms = put_text (codes "begin") (codes "now") ms

@@ -7,8 +7,7 @@ use Rattle.hazard_types.specs.Calendar.{stamp_at}
 use Rattle.hazard_types.specs.Characters.{location_at}
 use Rattle.hazard_types.specs.Codes.{value_for_code}
 use Rattle.office_types.specs.Desks.{is_desk_name}
-use Rattle.hazard_types.specs.Names.{zone_at, event_at}
-use Rattle.hazard_types.specs.Places.{Place}
+use Rattle.hazard_types.specs.Names.{event_at}
 use Rattle.hazard_types.specs.Times.{time_at}
 use Rattle.hazard_types.specs.Tables.{severity_rows, cause_rows, status_rows}
 use Rattle.hazard_types.specs.declared.codes.Severity.{Severity}
@@ -20,7 +19,7 @@ use Rattle.hazard_types.specs.declared.period.End.{End}
 use Rattle.hazard_types.specs.declared.period.End.TheVariants as end
 use Rattle.office_types.specs.declared.request.EventTexts.{EventTexts}
 use Rattle.office_types.specs.declared.request.Texts.{Texts}
-use Rattle.request_json.specs.Json.{text_at}
+use Rattle.json_parts.specs.Json.{text_at}
 use Rattle.request_json.specs.Keys.{all_known}
 use Rattle.request_json.specs.declared.keys.Keys.TheVariants as keys
 
@@ -48,13 +47,6 @@ number_at key d =
 -- a number that is not 0
 abbrev pub if_counted : ℕ → Option ℕ
 if_counted n = if nat_le 1 n then Some n else None
-
--- the zones of an array, if each item is a zone
-abbrev pub zones_of : Items → Option (List Place)
-zones_of no_items = Some []
-zones_of (item d ds) =
-    option_and_then (λ z. option_map (λ zs. z ∷ zs) (zones_of ds))
-    (option_and_then zone_at (as_str d))
 
 -- ---- H-VTEC values
 

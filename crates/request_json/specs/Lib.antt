@@ -2,7 +2,6 @@ pub mod Canonical
 pub mod Fields
 pub mod Form
 pub mod Formed
-pub mod Json
 pub mod Keys
 pub mod Pieces
 pub mod Replies

@@ -12,7 +12,8 @@ use Rattle.hazard_types.specs.declared.period.Begin.TheVariants as begin
 use Rattle.hazard_types.specs.declared.period.End.{End}
 use Rattle.hazard_types.specs.declared.period.End.TheVariants as end
 use Rattle.office_types.specs.declared.request.Texts.{Texts}
-use Rattle.request_json.specs.Canonical.{as_text, texts_data, zone_items}
+use Rattle.json_parts.specs.Written.{as_text}
+use Rattle.request_json.specs.Canonical.{texts_data, zone_items}
 use Rattle.request_json.specs.Replies.{event_items}
 
 -- a byte that strings have as it is: a printable one, but no quote and no backslash

@@ -6,7 +6,7 @@ use Rattle.serde_json.specs.View.{items_of}
 use Rattle.serde_json.specs.Written.{compact_text}
 use Rattle.hazard_types.specs.Calendar.{stamp_of}
 use Rattle.hazard_types.specs.Hazards.{hazard_code}
-use Rattle.hazard_types.specs.Names.{category_code, zone_text, event_text}
+use Rattle.hazard_types.specs.Names.{category_code, event_text}
 use Rattle.hazard_types.specs.Places.{Place}
 use Rattle.hazard_types.specs.declared.hazard.Event.{Event}
 use Rattle.office_types.specs.Refusals.{label as refusal_label}
@@ -19,16 +19,14 @@ use Rattle.office_types.specs.declared.request.Reply.TheVariants as reply
 use Rattle.office_types.specs.declared.request.SentReply.{SentReply}
 use Rattle.office_types.specs.declared.request.Word.{Word}
 use Rattle.office_types.specs.declared.request.Word.TheVariants as word
-use Rattle.request_json.specs.Canonical.{as_text, put_text, put_number, intent_data}
+use Rattle.json_parts.specs.Written.{as_text, put_text, put_number, put_zone, labelled}
+use Rattle.request_json.specs.Canonical.{intent_data}
 
 -- ---- refusals
 
 -- the code and the name of a refusal
 abbrev pub label : Refusal → List ℕ × List ℕ
 label r = ((refusal_label r).0, (refusal_label r).1)
-
-abbrev pub put_zone : Place → Members → Members
-put_zone z ms = put_text (codes "zone") (zone_text z) ms
 
 abbrev pub put_event_zone : Event → Place → Members → Members
 put_event_zone e z ms = put_text (codes "event") (event_text e) (put_zone z ms)
@@ -72,10 +70,6 @@ put_values (refusal.NotLast last) ms = put_number (codes "last") last ms
 put_values (refusal.TooManyLines lines) ms = put_number (codes "lines") lines ms
 put_values (refusal.TooLong bytes) ms = put_number (codes "bytes") bytes ms
 put_values r ms = ms
-
--- the members of a code and a name
-abbrev pub labelled : List ℕ × List ℕ → Members
-labelled l = put_text (codes "rule") l.1 (put_text (codes "no") l.0 no_members)
 
 unfoldable pub refusal_text : Refusal → List ℕ
 refusal_text r = compact_text (object (put_values r (labelled (label r))))

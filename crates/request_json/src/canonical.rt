@@ -3,16 +3,16 @@ ghost use Rattle.std.specs.Prelude.{◌≡◌, None, IfOk, IfSome, OnOk, map, co
 ghost use Rattle.office_types.specs.declared.request.Request.TheVariants.{Issue};
 ghost use Rattle.office_types.specs.declared.request.Target.TheVariants.{Fresh};
 ghost use Rattle.serde_json.specs.View.{view, members_view};
-ghost use Rattle.request_json.specs.Canonical.{put_text, put_source, put_times, put_begin, put_end, zone_data, texts_data, flood_data, event_texts_data, put_flood, put_target, put_zones_texts, put_put, put_event_part, put_routine, put_put_do, put_event_do, put_routine_do, put_intent, intent_data, intent_text, put_correct, put_draft_do, put_drop, put_open, put_request, asked_members, asked_text};
+ghost use Rattle.json_parts.specs.Written.{put_text};
+ghost use Rattle.request_json.specs.Canonical.{put_source, put_times, put_begin, put_end, zone_data, texts_data, flood_data, event_texts_data, put_flood, put_target, put_zones_texts, put_put, put_event_part, put_routine, put_put_do, put_event_do, put_routine_do, put_intent, intent_data, intent_text, put_correct, put_draft_do, put_drop, put_open, put_request, asked_members, asked_text};
 
 use crate::asked::Asked;
 use crate::issues::{bare_issue_text, opened_bare};
-use crate::members::{Members, put, put_number, put_text, text_of_members, text_value};
-use crate::refusals::put_event_text;
 use hazard_types::{
     Begin, Category, End, Flood, Hazard, List, Oom, Text, Zone, hazard_text, stamp, time_text,
     zone_text,
 };
+use json_parts::{Members, put, put_event_text, put_number, put_text, text_of_members, text_value};
 use office_types::{
     Desk, EventPart, EventTexts, Intent, PutPart, Request, RoutinePart, Target, Texts,
 };

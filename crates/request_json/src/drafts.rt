@@ -5,8 +5,8 @@ ghost use Rattle.request_json.specs.Canonical.{intent_data};
 ghost use Rattle.request_json.specs.Replies.{draft_members, draft_text};
 
 use crate::canonical::intent_value;
-use crate::members::{Members, put, put_number, put_text, text_of_members};
 use hazard_types::{Oom, Text, stamp};
+use json_parts::{Members, put, put_number, put_text, text_of_members};
 use office_types::{Draft, Intent};
 use serde_json::{Map, Value};
 use std::alloc::Global;

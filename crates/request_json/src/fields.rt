@@ -1,28 +1,22 @@
 //! The values of fields.
-ghost use Rattle.std.specs.Prelude.{◌≡◌, option_map, option_and_then, codes, IfOk};
-ghost use Rattle.serde_json.specs.Find.{get, as_array, as_str};
+ghost use Rattle.std.specs.Prelude.{◌≡◌, option_and_then, codes, IfOk};
+ghost use Rattle.serde_json.specs.Find.{get};
 ghost use Rattle.serde_json.specs.View.{view, items_view};
 ghost use Rattle.hazard_types.specs.Characters.{location_at};
-ghost use Rattle.hazard_types.specs.Names.{zone_at, event_at};
+ghost use Rattle.hazard_types.specs.Names.{event_at};
 ghost use Rattle.hazard_types.specs.Times.{time_at};
-ghost use Rattle.request_json.specs.Json.{text_at};
-ghost use Rattle.request_json.specs.Fields.{begin_at, end_at, desk_named, if_counted, number_at, zones_of, site_in, severity_in, cause_in, time_in, status_in, values_in, flood_of, free_text, four_texts, texts_of, event_texts_of, each_event_texts};
+ghost use Rattle.json_parts.specs.Json.{text_at};
+ghost use Rattle.request_json.specs.Fields.{begin_at, end_at, desk_named, if_counted, number_at, site_in, severity_in, cause_in, time_in, status_in, values_in, flood_of, free_text, four_texts, texts_of, event_texts_of, each_event_texts};
 
 use crate::keys::Keys;
 use hazard_types::{
-    Begin, Cause, End, Event, Flood, List, Minute, Oom, Severity, Status, Text, Zone, find,
-    parse_event, parse_location, parse_zone, read_stamp, written_causes,
+    Begin, Cause, End, Event, Flood, List, Minute, Oom, Severity, Status, Text, find, parse_event,
+    parse_location, read_stamp, written_causes,
 };
+use json_parts::text_at;
 use office_types::{Desk, EventTexts, Texts};
 use serde_json::Value;
 use std::alloc::Global;
-
-/// Returns the member with this key if it is a string.
-pub fn text_at<'v>(value: &'v Value, key: &str) -> Option<&'v str>
-    ensures { option_map (λ s. s.now) result ≡ text_at key.now (view value.now) }
-{
-    value.get(key).and_then(Value::as_str)
-}
 
 /// Returns the begin that the text is, `now` or a stamp, or `None` if it is neither.
 pub fn begin_of(text: &str) -> Option<Begin>
@@ -60,48 +54,6 @@ pub fn number_at(value: &Value, key: &str) -> Option<u32>
             }
         }
         None => None,
-    }
-}
-
-/// Returns the zone that the value is, or `None` if it is no string or no zone.
-fn zone_of(value: &Value) -> Option<Zone>
-    ensures { result ≡ option_and_then zone_at (as_str (view value.now)) }
-{
-    let text = value.as_str()?;
-    parse_zone(text.as_bytes())
-}
-
-/// Returns the zones that the values are, or `None` if one is no zone.
-///
-/// # Errors
-///
-/// Out of memory.
-pub fn zones_of(alloc: Global, values: &[Value]) -> Result<Option<List<Zone>>, Oom>
-    ensures { IfOk result (λ zones. zones ≡ zones_of (items_view values.now)) }
-{
-    let mut zones = List::new(alloc);
-    for value in values {
-        match zone_of(value) {
-            Some(zone) => zones.push(zone)?,
-            None => return Ok(None),
-        }
-    }
-    Ok(Some(zones))
-}
-
-/// Returns the zones of the member `zones`, or `None` if it is missing or no array of zones.
-///
-/// # Errors
-///
-/// Out of memory.
-pub fn zones_at(alloc: Global, value: &Value) -> Result<Option<List<Zone>>, Oom>
-    ensures { IfOk result (λ zones. zones
-        ≡ option_and_then zones_of
-        (option_and_then as_array (get (codes "zones") (view value.now)))) }
-{
-    match value.get("zones").and_then(Value::as_array) {
-        Some(values) => zones_of(alloc, values),
-        None => Ok(None),
     }
 }
 

@@ -12,7 +12,6 @@ mod fields;
 mod issues;
 mod keys;
 mod laws;
-mod members;
 mod pieces;
 mod refusals;
 mod replies;

@@ -5,9 +5,9 @@ ghost use Rattle.serde_json.specs.Written.{comma_if};
 ghost use Rattle.hazard_types.specs.Names.{event_text};
 ghost use Rattle.request_json.specs.Pieces.{is_plain, string_text, whole_text, zones_text, events_text, texts_text, area_details, impacts_what};
 
-use crate::members::text_value;
 use hazard_types::{Event, Oom, Text, Zone, put_event, zone_text};
 use itoa::Buffer;
+use json_parts::text_value;
 use office_types::Texts;
 use std::alloc::Global;
 
@@ -37,7 +37,7 @@ fn put_plain(out: &mut Text, bytes: &[u8]) -> Result<(), Oom>
 }
 
 /// Appends a string with its escapes.
-#[tactic(auto, using(crate::proofs::Floats::text_no_float), unfolding(crate::specs::Pieces::string_text))]
+#[tactic(auto, using(json_parts::proofs::Floats::text_no_float), unfolding(crate::specs::Pieces::string_text))]
 fn put_escaped(alloc: Global, out: &mut Text, bytes: &[u8]) -> Result<(), Oom>
     ensures { OnOk result (out.new ≡ out.old ++ string_text bytes.now) }
 {

@@ -1,49 +1,15 @@
 //! The texts of refusals.
-ghost use Rattle.std.specs.Prelude.{◌≡◌, IfOk, OnOk, codes};
+ghost use Rattle.std.specs.Prelude.{◌≡◌, IfOk, OnOk};
 ghost use Rattle.serde_json.specs.View.{members_view};
-ghost use Rattle.hazard_types.specs.Names.{event_text};
-ghost use Rattle.request_json.specs.Canonical.{put_text};
-ghost use Rattle.request_json.specs.Replies.{label, labelled, put_zone, put_event_zone, put_clash, put_place_in, put_values, refusal_text};
+ghost use Rattle.request_json.specs.Replies.{put_event_zone, put_clash, put_place_in, put_values, refusal_text};
 
-use crate::members::{Members, put_number, put_signed, put_size, put_text, text_of_members};
-use hazard_types::{Event, List, Oom, Text, Zone, hazard_text, put_event, stamp, zone_text};
+use hazard_types::{Event, Oom, Text, Zone, hazard_text, stamp};
+use json_parts::{
+    Members, labelled, put_event_text, put_number, put_signed, put_size, put_text, put_zone,
+    text_of_members,
+};
 use office_types::Refusal;
-use serde_json::Map;
 use std::alloc::Global;
-
-/// Returns the code and the name of a refusal.
-fn label(refusal: &Refusal) -> (&'static str, &'static str)
-    ensures { (result.0.now, result.1.now) ≡ label refusal.now }
-{
-    let (code, name, _status) = refusal.label();
-    (code, name)
-}
-
-/// Sets a member that is the text of an event.
-///
-/// # Errors
-///
-/// Out of memory.
-pub fn put_event_text(
-    alloc: Global,
-    members: &mut Members,
-    key: &str,
-    event: &Event,
-) -> Result<(), Oom>
-    ensures { OnOk result (members_view members.new.entries
-        ≡ put_text key.now (event_text event.now) (members_view members.old.entries)) }
-{
-    let mut text = List::new(alloc);
-    put_event(alloc, &mut text, event)?;
-    put_text(alloc, members, key, text.as_slice())
-}
-
-fn put_zone(alloc: Global, members: &mut Members, zone: &Zone) -> Result<(), Oom>
-    ensures { OnOk result (members_view members.new.entries
-        ≡ put_zone zone.now (members_view members.old.entries)) }
-{
-    put_text(alloc, members, "zone", &zone_text(zone))
-}
 
 fn put_event_zone(
     alloc: Global,
@@ -129,18 +95,6 @@ fn put_values(alloc: Global, members: &mut Members, refusal: &Refusal) -> Result
     }
 }
 
-fn refusal_members(alloc: Global, refusal: &Refusal) -> Result<Members, Oom>
-    ensures { IfOk result (λ members. members_view members.entries
-        ≡ put_values refusal.now (labelled (label refusal.now))) }
-{
-    let (no, rule) = label(refusal);
-    let mut members = Map::new(alloc);
-    put_text(alloc, &mut members, "no", no.as_bytes())?;
-    put_text(alloc, &mut members, "rule", rule.as_bytes())?;
-    put_values(alloc, &mut members, refusal)?;
-    Ok(members)
-}
-
 /// Returns the text of a refusal as compact JSON, keys in byte order: its code `no`, its name
 /// `rule` and its values.
 ///
@@ -149,10 +103,12 @@ fn refusal_members(alloc: Global, refusal: &Refusal) -> Result<Members, Oom>
 /// Out of memory.
 ///
 /// Source: docs/REQUESTS.md, "Refusals".
-#[tactic(auto, using(crate::proofs::Floats::refusal_no_float), unfolding(crate::specs::Replies::refusal_text))]
+#[tactic(auto, unfolding(crate::specs::Replies::refusal_text))]
 pub fn refusal_text(alloc: Global, refusal: &Refusal) -> Result<Text, Oom>
     ensures { IfOk result (λ text. text ≡ refusal_text refusal.now) }
 {
-    let members = refusal_members(alloc, refusal)?;
+    let (no, rule, _status) = refusal.label();
+    let mut members = labelled(alloc, no, rule)?;
+    put_values(alloc, &mut members, refusal)?;
     text_of_members(alloc, members)
 }

@@ -1,56 +1,36 @@
 //! Reads requests and lines of the training office.
-ghost use Rattle.std.specs.Prelude.{◌≡◌, if◌then◌else◌, IfOk, codes, Some, None, option_and_then};
+ghost use Rattle.std.specs.Prelude.{◌≡◌, ℕ, List, if◌then◌else◌, IfOk, Ok, Err, Result, codes, option_and_then};
 ghost use Rattle.hazard_types.specs.Codes.{value_for_code};
 ghost use Rattle.hazard_types.specs.Given.{Gives};
 ghost use Rattle.hazard_types.specs.Names.{hazard_at};
 ghost use Rattle.hazard_types.specs.Tables.{category_rows};
-ghost use Rattle.office_types.specs.declared.refusal.Refusal.{Refusal as Refused};
 ghost use Rattle.serde_json.specs.Find.{get};
 ghost use Rattle.serde_json.specs.View.{view, members_view};
-ghost use Rattle.request_json.specs.Json.{json_of, text_at};
-ghost use Rattle.request_json.specs.Form.{given, desk_field, seq_field, verb_field, category_field, number_field, hazard_field, event_field, zones_field, begin_field, end_field, flood_or_none, flood_field, texts_or_empty, texts_field, event_texts_or_none, event_texts_field, target_field, put_on, issue_part, put_part, event_part, routine_part, draft_in, draft_request, request_in, asked_in, asked_of, is_issue, training_issue_in, training_issue_of};
+ghost use Rattle.json_parts.specs.Json.{text_at};
+ghost use Rattle.request_json.specs.Form.{desk_field, seq_field, verb_field, category_field, number_field, hazard_field, event_field, begin_field, end_field, flood_or_none, flood_field, texts_or_empty, texts_field, event_texts_or_none, event_texts_field, target_field, put_on, issue_part, put_part, event_part, routine_part, draft_in, draft_request, request_in, asked_in, told, asked_of, is_issue, training_issue_in, training_issue_of};
 ghost use Rattle.request_json.specs.Keys.{verb_at, all_known};
 ghost use Rattle.request_json.specs.Formed.{IsIssuePart, HasForm};
 
 use crate::asked::Asked;
 use crate::fields::{
-    begin_of, desk_of, each_event_texts, end_of, event_of, flood_of, number_at, seq_of, text_at,
-    texts_of, zones_at,
+    begin_of, desk_of, each_event_texts, end_of, event_of, flood_of, number_at, seq_of, texts_of,
 };
 use crate::keys::{Keys, Verb};
-use hazard_types::{Begin, Category, End, Event, Flood, Hazard, List, Oom, Or, Zone, hazard_in};
+use hazard_types::{Begin, Category, End, Event, Flood, Hazard, List, Oom, Or, Text, hazard_in};
+use json_parts::{given, read_json, text_at, wrong, zones_field};
 use office_types::{
     Desk, EventPart, EventTexts, PutPart, Refusal, Request, RoutinePart, Target, Texts,
 };
 use serde_json::{Map, Value};
 use std::alloc::Global;
 
-/// Returns the value of a field, or `WrongShape` with the field's name if there is none.
-fn given<T: Drop>(alloc: Global, found: Option<T>, field: &str) -> Result<T, Or<Refusal>>
-    ensures { Gives result (given found field.now) }
-{
-    match found {
-        Some(value) => Ok(value),
-        None => Err(Or::No(Refusal::WrongShape {
-            field: List::from_slice(alloc, field.as_bytes())?,
-        })),
-    }
-}
-
-/// Returns `WrongShape` with the field's name.
-fn wrong<T: Drop>(alloc: Global, field: &str) -> Result<T, Or<Refusal>>
-    ensures { Gives result (Err (Refusal.WrongShape field.now)) }
-{
-    given(alloc, None, field)
-}
-
-fn desk_field(alloc: Global, value: &Value) -> Result<Desk, Or<Refusal>>
+fn desk_field(alloc: Global, value: &Value) -> Result<Desk, Or<Text>>
     ensures { Gives result (desk_field (view value.now)) }
 {
     given(alloc, text_at(value, "desk").and_then(desk_of), "desk")
 }
 
-fn seq_field(alloc: Global, value: &Value) -> Result<u32, Or<Refusal>>
+fn seq_field(alloc: Global, value: &Value) -> Result<u32, Or<Text>>
     ensures { Gives result (seq_field (view value.now)) }
 {
     given(alloc, number_at(value, "seq").and_then(seq_of), "seq")
@@ -63,7 +43,7 @@ fn verb_of(value: &Value) -> Option<Verb>
     Verb::from_word(word)
 }
 
-fn verb_field(alloc: Global, value: &Value) -> Result<Verb, Or<Refusal>>
+fn verb_field(alloc: Global, value: &Value) -> Result<Verb, Or<Text>>
     ensures { Gives result (verb_field (view value.now)) }
 {
     given(alloc, verb_of(value), "do")
@@ -78,14 +58,14 @@ fn category_of(value: &Value) -> Option<Category>
     Category::from_code(text.as_bytes())
 }
 
-fn category_field(alloc: Global, value: &Value) -> Result<Category, Or<Refusal>>
+fn category_field(alloc: Global, value: &Value) -> Result<Category, Or<Text>>
     ensures { Gives result (category_field (view value.now)) }
 {
     given(alloc, category_of(value), "category")
 }
 
 /// Returns the number of a draft, a place or a product, below 2^32.
-fn number_field(alloc: Global, value: &Value, key: &str) -> Result<u32, Or<Refusal>>
+fn number_field(alloc: Global, value: &Value, key: &str) -> Result<u32, Or<Text>>
     ensures { Gives result (number_field key.now (view value.now)) }
 {
     given(alloc, number_at(value, key), key)
@@ -98,32 +78,25 @@ fn hazard_of(value: &Value) -> Option<Hazard>
     hazard_in(text.as_bytes())
 }
 
-fn hazard_field(alloc: Global, value: &Value) -> Result<Hazard, Or<Refusal>>
+fn hazard_field(alloc: Global, value: &Value) -> Result<Hazard, Or<Text>>
     ensures { Gives result (hazard_field (view value.now)) }
 {
     given(alloc, hazard_of(value), "hazard")
 }
 
-fn event_field(alloc: Global, value: &Value) -> Result<Event, Or<Refusal>>
+fn event_field(alloc: Global, value: &Value) -> Result<Event, Or<Text>>
     ensures { Gives result (event_field (view value.now)) }
 {
     given(alloc, event_of(value), "event")
 }
 
-fn zones_field(alloc: Global, value: &Value) -> Result<List<Zone>, Or<Refusal>>
-    ensures { Gives result (zones_field (view value.now)) }
-{
-    let zones = zones_at(alloc, value)?;
-    given(alloc, zones, "zones")
-}
-
-fn begin_field(alloc: Global, value: &Value) -> Result<Begin, Or<Refusal>>
+fn begin_field(alloc: Global, value: &Value) -> Result<Begin, Or<Text>>
     ensures { Gives result (begin_field (view value.now)) }
 {
     given(alloc, text_at(value, "begin").and_then(begin_of), "begin")
 }
 
-fn end_field(alloc: Global, value: &Value) -> Result<End, Or<Refusal>>
+fn end_field(alloc: Global, value: &Value) -> Result<End, Or<Text>>
     ensures { Gives result (end_field (view value.now)) }
 {
     given(alloc, text_at(value, "end").and_then(end_of), "end")
@@ -143,7 +116,7 @@ fn flood_or_none(value: &Value) -> Option<Option<Flood>>
     }
 }
 
-fn flood_field(alloc: Global, value: &Value) -> Result<Option<Flood>, Or<Refusal>>
+fn flood_field(alloc: Global, value: &Value) -> Result<Option<Flood>, Or<Text>>
     ensures { Gives result (flood_field (view value.now)) }
 {
     given(alloc, flood_or_none(value), "flood")
@@ -165,7 +138,7 @@ fn texts_or_empty(alloc: Global, value: &Value) -> Result<Option<Texts>, Oom>
     }
 }
 
-fn texts_field(alloc: Global, value: &Value) -> Result<Texts, Or<Refusal>>
+fn texts_field(alloc: Global, value: &Value) -> Result<Texts, Or<Text>>
     ensures { Gives result (texts_field (view value.now)) }
 {
     let texts = texts_or_empty(alloc, value)?;
@@ -187,7 +160,7 @@ fn event_texts_or_none(alloc: Global, value: &Value) -> Result<Option<List<Event
     }
 }
 
-fn event_texts_field(alloc: Global, value: &Value) -> Result<List<EventTexts>, Or<Refusal>>
+fn event_texts_field(alloc: Global, value: &Value) -> Result<List<EventTexts>, Or<Text>>
     ensures { Gives result (event_texts_field (view value.now)) }
 {
     let texts = event_texts_or_none(alloc, value)?;
@@ -198,7 +171,7 @@ fn event_texts_field(alloc: Global, value: &Value) -> Result<List<EventTexts>, O
 /// wrong field is `hazard`.
 ///
 /// Source: docs/DECISIONS.md, "Requests".
-fn target_field(alloc: Global, value: &Value) -> Result<Target, Or<Refusal>>
+fn target_field(alloc: Global, value: &Value) -> Result<Target, Or<Text>>
     ensures { Gives result (target_field (view value.now)) }
 {
     match (value.get("hazard"), value.get("event")) {
@@ -209,26 +182,21 @@ fn target_field(alloc: Global, value: &Value) -> Result<Target, Or<Refusal>>
 }
 
 #[tactic(auto, unfolding(crate::specs::Form::put_on))]
-fn put_on(alloc: Global, target: Target, value: &Value) -> Result<PutPart, Or<Refusal>>
+fn put_on(alloc: Global, target: Target, value: &Value) -> Result<PutPart, Or<Text>>
     ensures { Gives result (put_on target (view value.now)) }
 {
-    let zones = zones_field(alloc, value)?;
-    let begin = begin_field(alloc, value)?;
-    let end = end_field(alloc, value)?;
-    let flood = flood_field(alloc, value)?;
-    let texts = texts_field(alloc, value)?;
     Ok(PutPart {
         target,
-        zones,
-        begin,
-        end,
-        flood,
-        texts,
+        zones: zones_field(alloc, value)?,
+        begin: begin_field(alloc, value)?,
+        end: end_field(alloc, value)?,
+        flood: flood_field(alloc, value)?,
+        texts: texts_field(alloc, value)?,
     })
 }
 
 #[tactic(auto, unfolding(crate::specs::Form::issue_part))]
-fn issue_part(alloc: Global, value: &Value) -> Result<PutPart, Or<Refusal>>
+fn issue_part(alloc: Global, value: &Value) -> Result<PutPart, Or<Text>>
     ensures { Gives result (issue_part (view value.now)) }
 {
     let hazard = hazard_field(alloc, value)?;
@@ -236,7 +204,7 @@ fn issue_part(alloc: Global, value: &Value) -> Result<PutPart, Or<Refusal>>
 }
 
 #[tactic(auto, unfolding(crate::specs::Form::put_part))]
-fn put_part(alloc: Global, value: &Value) -> Result<PutPart, Or<Refusal>>
+fn put_part(alloc: Global, value: &Value) -> Result<PutPart, Or<Text>>
     ensures { Gives result (put_part (view value.now)) }
 {
     let target = target_field(alloc, value)?;
@@ -244,7 +212,7 @@ fn put_part(alloc: Global, value: &Value) -> Result<PutPart, Or<Refusal>>
 }
 
 #[tactic(auto, unfolding(crate::specs::Form::event_part))]
-fn event_part(alloc: Global, value: &Value) -> Result<EventPart, Or<Refusal>>
+fn event_part(alloc: Global, value: &Value) -> Result<EventPart, Or<Text>>
     ensures { Gives result (event_part (view value.now)) }
 {
     let event = event_field(alloc, value)?;
@@ -258,7 +226,7 @@ fn event_part(alloc: Global, value: &Value) -> Result<EventPart, Or<Refusal>>
 }
 
 #[tactic(auto, unfolding(crate::specs::Form::routine_part))]
-fn routine_part(alloc: Global, value: &Value) -> Result<RoutinePart, Or<Refusal>>
+fn routine_part(alloc: Global, value: &Value) -> Result<RoutinePart, Or<Text>>
     ensures { Gives result (routine_part (view value.now)) }
 {
     let hazard = hazard_field(alloc, value)?;
@@ -273,7 +241,7 @@ fn routine_part(alloc: Global, value: &Value) -> Result<RoutinePart, Or<Refusal>
 
 /// Returns the request on a draft, from the fields that follow `draft`.
 #[tactic(auto, unfolding(crate::specs::Form::draft_in))]
-fn draft_in(alloc: Global, verb: Verb, draft: u32, value: &Value) -> Result<Request, Or<Refusal>>
+fn draft_in(alloc: Global, verb: Verb, draft: u32, value: &Value) -> Result<Request, Or<Text>>
     ensures { Gives result (draft_in verb draft (view value.now)) }
 {
     match verb {
@@ -290,7 +258,7 @@ fn draft_in(alloc: Global, verb: Verb, draft: u32, value: &Value) -> Result<Requ
 
 /// Returns the request on a draft, from its field `draft` and those that follow.
 #[tactic(auto, unfolding(crate::specs::Form::draft_request))]
-fn draft_request(alloc: Global, verb: Verb, value: &Value) -> Result<Request, Or<Refusal>>
+fn draft_request(alloc: Global, verb: Verb, value: &Value) -> Result<Request, Or<Text>>
     ensures { Gives result (draft_request verb (view value.now)) }
 {
     let draft = number_field(alloc, value, "draft")?;
@@ -299,7 +267,7 @@ fn draft_request(alloc: Global, verb: Verb, value: &Value) -> Result<Request, Or
 
 /// Returns the request, from the fields that follow `do`.
 #[tactic(auto, unfolding(crate::specs::Form::request_in))]
-fn request_in(alloc: Global, verb: Verb, value: &Value) -> Result<Request, Or<Refusal>>
+fn request_in(alloc: Global, verb: Verb, value: &Value) -> Result<Request, Or<Text>>
     ensures { Gives result (request_in verb (view value.now)) }
 {
     match verb {
@@ -313,16 +281,16 @@ fn request_in(alloc: Global, verb: Verb, value: &Value) -> Result<Request, Or<Re
     }
 }
 
-/// Returns the value that was read, or `WrongShape` with `?` if a key is unknown.
+/// Returns the value that was read, or `?` if a key is unknown.
 fn known<T: Drop>(
     alloc: Global,
     keys: Keys,
     members: &Map<String, Value>,
     read: T,
-) -> Result<T, Or<Refusal>>
+) -> Result<T, Or<Text>>
     ensures { Gives result (if all_known keys (members_view members.now.entries)
         then Ok read
-        else Err (Refusal.WrongShape (codes "?"))) }
+        else Err (codes "?")) }
 {
     if keys.know_all(members) {
         Ok(read)
@@ -331,9 +299,10 @@ fn known<T: Drop>(
     }
 }
 
-/// Returns the request that a JSON value is, with its desk and number.
+/// Returns the request that a JSON value is, with its desk and number, or the name of the first
+/// field that is missing or wrong.
 #[tactic(auto, unfolding(crate::specs::Form::asked_in))]
-fn asked_in(alloc: Global, value: &Value) -> Result<Asked, Or<Refusal>>
+fn asked_in(alloc: Global, value: &Value) -> Result<Asked, Or<Text>>
     ensures { Gives result (asked_in (view value.now)) }
 {
     let Some(members) = value.as_object() else {
@@ -346,22 +315,15 @@ fn asked_in(alloc: Global, value: &Value) -> Result<Asked, Or<Refusal>>
     known(alloc, verb.keys(), members, Asked { desk, seq, request })
 }
 
-/// Returns the JSON value that the bytes are, or `NotJson`.
-fn read_json(alloc: Global, bytes: &[u8]) -> Result<Value, Or<Refusal>>
-    ensures ok { IfOk result (λ value. json_of bytes.now ≡ Some (view value)) }
-    ensures refused { (refusal : Refused) → result ≡ Err (Or.No refusal) →
-        json_of bytes.now ≡ None }
-    ensures named { (refusal : Refused) → result ≡ Err (Or.No refusal) → refusal ≡ Refusal.NotJson }
+/// Returns what was read, or `WrongShape` with the name of the field that is missing or wrong.
+fn told<T: Drop>(read: Result<T, Or<Text>>) -> Result<T, Or<Refusal>>
+    ensures exact { (answer : Result T (List ℕ)) → Gives read answer → Gives result (told answer) }
+    ensures kept { IfOk result (λ found. read ≡ Ok found) }
 {
-    match Value::from_slice(alloc, bytes) {
-        Ok(value) => Ok(value),
-        Err(error) => {
-            if error.is_memory() {
-                Err(Or::OutOfMemory)
-            } else {
-                Err(Or::No(Refusal::NotJson))
-            }
-        }
+    match read {
+        Ok(found) => Ok(found),
+        Err(Or::No(field)) => Err(Or::No(Refusal::WrongShape { field })),
+        Err(Or::OutOfMemory) => Err(Or::OutOfMemory),
     }
 }
 
@@ -379,8 +341,10 @@ pub fn read_request(alloc: Global, bytes: &[u8]) -> Result<Asked, Or<Refusal>>
     ensures exact { Gives result (asked_of bytes.now) }
     ensures form { IfOk result HasForm }
 {
-    let value = read_json(alloc, bytes)?;
-    asked_in(alloc, &value)
+    match read_json(alloc, bytes)? {
+        Some(value) => told(asked_in(alloc, &value)),
+        None => Err(Or::No(Refusal::NotJson)),
+    }
 }
 
 fn is_issue(value: &Value) -> bool
@@ -392,8 +356,10 @@ fn is_issue(value: &Value) -> bool
     }
 }
 
+/// Returns the put of an issue without desk and number, or the name of the first field that is
+/// missing or wrong.
 #[tactic(auto, unfolding(crate::specs::Form::training_issue_in))]
-fn training_issue_in(alloc: Global, value: &Value) -> Result<PutPart, Or<Refusal>>
+fn training_issue_in(alloc: Global, value: &Value) -> Result<PutPart, Or<Text>>
     ensures { Gives result (training_issue_in (view value.now)) }
 {
     let Some(members) = value.as_object() else {
@@ -418,6 +384,8 @@ pub fn read_training_issue(alloc: Global, line: &[u8]) -> Result<PutPart, Or<Ref
     ensures exact { Gives result (training_issue_of line.now) }
     ensures form { IfOk result IsIssuePart }
 {
-    let value = read_json(alloc, line)?;
-    training_issue_in(alloc, &value)
+    match read_json(alloc, line)? {
+        Some(value) => told(training_issue_in(alloc, &value)),
+        None => Err(Or::No(Refusal::NotJson)),
+    }
 }

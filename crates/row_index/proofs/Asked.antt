@@ -175,10 +175,10 @@ pub first_made : (rows : List Row) (t : ℕ) (lines earlier : List Line) (line :
 unfolding breach_in
 first_made rows t lines earlier line second higher second_is breach_is = λ i. cond (is_routine line.action) None (cond (second_is i) (Some Twice) (breach_is i))
 
-pub other_made : (rows : List Row) (t : ℕ) (lines earlier : List Line) (line : Line) (second : Bool) → is_upgrade line.action ≡ false → second ≡ is_second earlier line
-    → cond (is_routine line.action) None (cond second (Some Twice) (breach_of_line (life_at rows line) line t (around_but_higher rows t line true))) ≡ breach_in rows t lines earlier line
-other_made rows t lines earlier line second other second_is =
-    first_made rows t lines earlier line second true second_is (breach-higher (life_at rows line) line rows t true (has_higher rows t lines line) other)
+pub other_made : (rows : List Row) (t : ℕ) (lines earlier : List Line) (line : Line) (second higher : Bool) → is_upgrade line.action ≡ false → second ≡ is_second earlier line
+    → cond (is_routine line.action) None (cond second (Some Twice) (breach_of_line (life_at rows line) line t (around_but_higher rows t line higher))) ≡ breach_in rows t lines earlier line
+other_made rows t lines earlier line second higher other second_is =
+    first_made rows t lines earlier line second higher second_is (breach-higher (life_at rows line) line rows t higher (has_higher rows t lines line) other)
 
 pub upgrade_made : (rows : List Row) (t : ℕ) (lines earlier : List Line) (line : Line) (second higher : Bool) → higher ≡ has_higher rows t lines line → second ≡ is_second earlier line
     → cond (is_routine line.action) None (cond second (Some Twice) (breach_of_line (life_at rows line) line t (around_but_higher rows t line higher))) ≡ breach_in rows t lines earlier line
@@ -186,11 +186,17 @@ upgrade_made rows t lines earlier line second higher higher_is second_is =
     first_made rows t lines earlier line second higher second_is (ap (λ (b : Bool). breach_of_line (life_at rows line) line t (around_but_higher rows t line b)) higher_is)
 
 -- whether a line may count
-pub may_count_is : (routine upgrade second : Bool) (breach : Option Breach) → (not routine && not upgrade && not second && is_none (cond routine None (cond second (Some Twice) breach))) ≡ (not routine && not upgrade && not second && is_none breach)
-may_count_is true upgrade second breach = refl
-may_count_is false true second breach = refl
-may_count_is false false true breach = refl
-may_count_is false false false breach = refl
+pub neither : (a b c : Bool) → a ≡ false → b ≡ false → c ≡ (not a && not b && c)
+neither true b c h g = cc
+neither false true c h g = cc
+neither false false c h g = refl
+
+may_count_is : (routine upgrade second : Bool) (breach : Option Breach) → (not second && (not routine && not upgrade && is_none breach)) ≡ (not routine && not upgrade && not second && is_none breach)
+may_count_is false false second breach = refl
+may_count_is true upgrade true breach = refl
+may_count_is true upgrade false breach = refl
+may_count_is false true true breach = refl
+may_count_is false true false breach = refl
 
 -- one line more
 
@@ -207,14 +213,17 @@ judged_next rows t lines found next all i line breach lt is breach_is made h =
     ∙ ap (λ (more : List Line). found ++ judged_from rows t lines (take i lines) more) (sym (cut_at lines i line lt is))
     ∙ h
 
-pub counted_next : (rows : List Row) (t : ℕ) (lines : List Line) (es next all : List Row) (i : ℕ) (line : Line) (second counts : Bool) (row : Row) → i < length lines → line ≡ get_or lines i line
+pub counted_next : (rows : List Row) (t : ℕ) (lines : List Line) (es next all : List Row) (i : ℕ) (line : Line) (second lawful : Bool) (row : Row) → i < length lines → line ≡ get_or lines i line
     → second ≡ is_second (take i lines) line
-    → counts ≡ (not (is_routine line.action) && not (is_upgrade line.action) && not second && is_none (breach_of_line (life_at rows line) line t (around_but_higher rows t line true)))
-    → row ≡ row_after rows t line → next ≡ cond counts (put row es) es → rows_after_all_but_upgrades rows t (take i lines) (drop i lines) es ≡ all
+    → lawful ≡ (not (is_routine line.action) && not (is_upgrade line.action) && is_none (breach_of_line (life_at rows line) line t (around_but_higher rows t line true)))
+    → row ≡ row_after rows t line → next ≡ cond (not second && lawful) (put row es) es → rows_after_all_but_upgrades rows t (take i lines) (drop i lines) es ≡ all
     → rows_after_all_but_upgrades rows t (take (i + 1) lines) (drop (i + 1) lines) next ≡ all
-counted_next rows t lines es next all i line second counts row lt is second_is counts_is row_is made h =
+counted_next rows t lines es next all i line second lawful row lt is second_is lawful_is row_is made h =
     let rest = drop (i + 1) lines in
-    let counts_so : counts ≡ may_count rows t (take i lines) line = counts_is ∙ ap (λ (b : Bool). not (is_routine line.action) && not (is_upgrade line.action) && not b && is_none (breach_of_line (life_at rows line) line t (around_but_higher rows t line true))) second_is in
+    let breach = breach_of_line (life_at rows line) line t (around_but_higher rows t line true) in
+    let counts_so : (not second && lawful) ≡ may_count rows t (take i lines) line =
+    ap (λ (b : Bool). not second && b) lawful_is ∙ may_count_is (is_routine line.action) (is_upgrade line.action) second breach
+    ∙ ap (λ (b : Bool). not (is_routine line.action) && not (is_upgrade line.action) && not b && is_none breach) second_is in
     ap (λ (earlier : List Line). rows_after_all_but_upgrades rows t earlier rest next) (one_longer lines i line lt is)
     ∙ ap (λ (xs : List Row). rows_after_all_but_upgrades rows t (take i lines ++ line ∷ []) rest xs) (made ∙ (λ i. cond (counts_so i) (put (row_is i) es) es))
     ∙ ap (λ (more : List Line). rows_after_all_but_upgrades rows t (take i lines) more es) (sym (cut_at lines i line lt is))

@@ -35,21 +35,10 @@ use Rattle.row_index.specs.Telling.{Tells}
 use Rattle.row_index.specs.declared.reach.Reach.{Reach}
 use Rattle.row_index.proofs.HeldRows.{none-sorted}
 use Rattle.row_index.proofs.Reached.{found-among}
-use Rattle.row_index.proofs.Seated.{event_by, same_by}
+use Rattle.row_index.proofs.Seated.{event_by, one_longer, same_by}
 use Rattle.row_index.proofs.Tests.{and_false, and_true, any_insert, at_one, at_own}
 
 -- keys of items that count
-
-module _ {X : Type 0} where
-  longer_by : (i : ℕ) (xs : List X) (x : X) → i < length xs → x ≡ get_or xs i x → take (suc i) xs ≡ take i xs ++ x ∷ []
-  longer_by i [] x within is = absurd (omega (arith, within))
-  longer_by zero (y ∷ xs) x within is = ap (λ (z : X). z ∷ []) (sym is)
-  longer_by (suc i) (y ∷ xs) x within is = ap (λ (zs : List X). y ∷ zs) (longer_by i xs x (omega (arith, within)) is)
-
-  pub one_longer : (xs : List X) (i : ℕ) (x : X) → i < length xs → x ≡ get_or xs i x → take (i + 1) xs ≡ take i xs ++ x ∷ []
-  one_longer xs i x within is =
-      let next : i + 1 ≡ suc i = omega arith in
-      ap (λ (k : ℕ). take k xs) next ∙ longer_by i xs x within is
 
 turned : (a b : Bool) → (a || b) ≡ (b || (a || false))
 turned true true = refl

@@ -89,10 +89,10 @@ alike_breach : (rows : List Row) (t : ℕ) (all : List Line) (l : Line) (z w : P
     → breach_in rows t all [] (in_zone l z) ≡ breach_in rows t all [] (in_zone l w)
 alike_breach rows t all l z w other same =
     let around = around_but_higher rows t l true in
-    sym (other_made rows t all [] (in_zone l z) false other refl)
+    sym (other_made rows t all [] (in_zone l z) false true other refl)
     ∙ ap (λ (b : Option Breach). cond (is_routine l.action) None b)
     (zone_breach (life_at rows (in_zone l z)) l z w t around ∙ ap (λ (o : Option Life). breach_of_line o (in_zone l w) t around) same)
-    ∙ other_made rows t all [] (in_zone l w) false other refl
+    ∙ other_made rows t all [] (in_zone l w) false true other refl
 
 alike_judged : (rows : List Row) (t : ℕ) (all : List Line) (v : Verdict) (z w : Place) → is_upgrade v.line.action ≡ false → IsJudgedAt rows t all z v → IsLifeIn rows v.line.event v.found w → IsJudgedAt rows t all w v
 alike_judged rows t all v z w other judged found = (found, judged.1 ∙ alike_breach rows t all v.line z w other (judged.0 ∙ sym found))

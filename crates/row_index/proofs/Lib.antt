@@ -2,7 +2,7 @@ pub mod Tests
 mod Seated
 mod Zoned
 mod Saying
-mod Lists
+pub mod Lists
 mod HeldRows
 mod Opened
 mod Reached

@@ -11,16 +11,43 @@ use Rattle.std.specs.Ordering.{match_ordering}
 use Rattle.row_index.specs.Listing.{list_at}
 use Rattle.row_index.proofs.Tests.{at_one, at_own, insert-sorted}
 
-module _ {K X : Type 0} (cmp : K → K → Ordering) (total : IsTotalOrder cmp) (ties : (a b : K) → cmp a b ≡ Equal → a ≡ b) where
-  same_by : (o : Ordering) (k : K) (e : K × List X) (es : List (K × List X)) (w : List X) → cmp k e.0 ≡ o
-      → list_at cmp (insert_entry cmp es k w) k ≡ w → list_at cmp (match_ordering o ((k, w) ∷ e ∷ es) ((e.0, w) ∷ es) (e ∷ insert_entry cmp es k w)) k ≡ w
+module _ {K V : Type 0} (cmp : K → K → Ordering) (total : IsTotalOrder cmp) (ties : (a b : K) → cmp a b ≡ Equal → a ≡ b) (none : V) where
+  -- what stands at a key, where `none` stands at one that is not there
+  abbrev value_at : List (K × V) → K → V
+  value_at es k = unwrap_or (lookup (is_at (cmp k)) es) none
+
+  same_by : (o : Ordering) (k : K) (e : K × V) (es : List (K × V)) (w : V) → cmp k e.0 ≡ o
+      → value_at (insert_entry cmp es k w) k ≡ w → value_at (match_ordering o ((k, w) ∷ e ∷ es) ((e.0, w) ∷ es) (e ∷ insert_entry cmp es k w)) k ≡ w
   same_by Less k e es w h later = rw (at_own cmp total ties k) refl
   same_by Equal k e es w h later = rw h refl
   same_by Greater k e es w h later = rw h later
 
+  pub value_same : (k : K) (es : List (K × V)) (w : V) → value_at (insert_entry cmp es k w) k ≡ w
+  value_same k [] w = rw (at_own cmp total ties k) refl
+  value_same k (e ∷ es) w = same_by (cmp k e.0) k e es w refl (value_same k es w)
+
+  other_first : (b : Bool) (v : V) (o p : Option V) → unwrap_or o none ≡ unwrap_or p none → unwrap_or (cond b (Some v) o) none ≡ unwrap_or (cond b (Some v) p) none
+  other_first true v o p h = refl
+  other_first false v o p h = h
+
+  other_by : (o : Ordering) (q k : K) (e : K × V) (es : List (K × V)) (w : V) → cmp k e.0 ≡ o → is_at (cmp q) k ≡ false
+      → value_at (insert_entry cmp es k w) q ≡ value_at es q → value_at (match_ordering o ((k, w) ∷ e ∷ es) ((e.0, w) ∷ es) (e ∷ insert_entry cmp es k w)) q ≡ value_at (e ∷ es) q
+  other_by Less q k e es w h f later = rw f refl
+  other_by Equal q k e es w h f later =
+      let g : is_at (cmp q) e.0 ≡ false = subst (λ (y : K). is_at (cmp q) y ≡ false) (ties k e.0 h) f in
+      rw g refl
+  other_by Greater q k e es w h f later = other_first (is_at (cmp q) e.0) e.1 (lookup (is_at (cmp q)) (insert_entry cmp es k w)) (lookup (is_at (cmp q)) es) later
+
+  pub value_other : (q k : K) (es : List (K × V)) (w : V) → is_at (cmp q) k ≡ false → value_at (insert_entry cmp es k w) q ≡ value_at es q
+  value_other q k [] w f = rw f refl
+  value_other q k (e ∷ es) w f = other_by (cmp k e.0) q k e es w refl f (value_other q k es w f)
+
+module _ {K X : Type 0} (cmp : K → K → Ordering) (total : IsTotalOrder cmp) (ties : (a b : K) → cmp a b ≡ Equal → a ≡ b) where
   pub at_same : (k : K) (es : List (K × List X)) (w : List X) → list_at cmp (insert_entry cmp es k w) k ≡ w
-  at_same k [] w = rw (at_own cmp total ties k) refl
-  at_same k (e ∷ es) w = same_by (cmp k e.0) k e es w refl (at_same k es w)
+  at_same k es w = value_same cmp total ties [] k es w
+
+  pub at_other : (q k : K) (es : List (K × List X)) (w : List X) → is_at (cmp q) k ≡ false → list_at cmp (insert_entry cmp es k w) q ≡ list_at cmp es q
+  at_other q k es w f = value_other cmp total ties [] q k es w f
 
   -- one put in the place of another that was put there
   twice_by : (o : Ordering) (k : K) (e : K × List X) (es : List (K × List X)) (v w : List X) → cmp k e.0 ≡ o → insert_entry cmp (insert_entry cmp es k v) k w ≡ insert_entry cmp es k w
@@ -32,22 +59,6 @@ module _ {K X : Type 0} (cmp : K → K → Ordering) (total : IsTotalOrder cmp) 
   pub put_twice : (k : K) (es : List (K × List X)) (v w : List X) → insert_entry cmp (insert_entry cmp es k v) k w ≡ insert_entry cmp es k w
   put_twice k [] v w = rw (tied_itself total k) refl
   put_twice k (e ∷ es) v w = twice_by (cmp k e.0) k e es v w refl (put_twice k es v w)
-
-  other_first : (b : Bool) (xs : List X) (o p : Option (List X)) → unwrap_or o [] ≡ unwrap_or p [] → unwrap_or (cond b (Some xs) o) [] ≡ unwrap_or (cond b (Some xs) p) []
-  other_first true xs o p h = refl
-  other_first false xs o p h = h
-
-  other_by : (o : Ordering) (q k : K) (e : K × List X) (es : List (K × List X)) (w : List X) → cmp k e.0 ≡ o → is_at (cmp q) k ≡ false
-      → list_at cmp (insert_entry cmp es k w) q ≡ list_at cmp es q → list_at cmp (match_ordering o ((k, w) ∷ e ∷ es) ((e.0, w) ∷ es) (e ∷ insert_entry cmp es k w)) q ≡ list_at cmp (e ∷ es) q
-  other_by Less q k e es w h f later = rw f refl
-  other_by Equal q k e es w h f later =
-      let g : is_at (cmp q) e.0 ≡ false = subst (λ (y : K). is_at (cmp q) y ≡ false) (ties k e.0 h) f in
-      rw g refl
-  other_by Greater q k e es w h f later = other_first (is_at (cmp q) e.0) e.1 (lookup (is_at (cmp q)) (insert_entry cmp es k w)) (lookup (is_at (cmp q)) es) later
-
-  pub at_other : (q k : K) (es : List (K × List X)) (w : List X) → is_at (cmp q) k ≡ false → list_at cmp (insert_entry cmp es k w) q ≡ list_at cmp es q
-  at_other q k [] w f = rw f refl
-  at_other q k (e ∷ es) w f = other_by (cmp k e.0) q k e es w refl f (at_other q k es w f)
 
   -- keys behind one that is not there
   pub at_none : (k : K) (es : List (K × List X)) → AllByRecursion (λ (y : K). cmp k y ≡ Less) (keys_of es) → list_at cmp es k ≡ []

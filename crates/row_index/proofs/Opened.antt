@@ -1,5 +1,6 @@
 -- The events of a hazard and number are those of its rows; of those that are open the one of the latest year.
 use Rattle.std.proofs.Common.{◌≡◌, ◌∙◌, ◌==◌, ℕ, List, [], ◌∷◌, ◌++◌, ◌&&◌, ◌||◌, Bool, true, false, cond, Ordering, Less, Equal, Greater, Option, Some, None, unwrap_or, Vec, Global, fold, inl, inr, refl, ap, sym, subst, arith}
+use Rattle.std.proofs.lemmas.Map.Lookups.{exact_pairs}
 use Rattle.std.specs.Prelude.{nat_lt}
 use Rattle.std.proofs.lemmas.Bool.{and_parts, false_from_ne_true, eqb-true}
 use Rattle.std.proofs.lemmas.Bool.Decides.{nat_tests}
@@ -10,16 +11,16 @@ use Rattle.std.specs.Cmp.{IsTotalOrder}
 use Rattle.std.specs.List.{AllByRecursion, list_any}
 use Rattle.std.specs.List.Sorted.{IsStrictlySortedBy}
 use Rattle.std.specs.Map.{lookup}
-use Rattle.std.specs.Ordering.{match_ordering}
+use Rattle.std.specs.Ordering.{match_ordering, nat_cmp}
 use Rattle.hazard_types.specs.Orders.{by_hazard}
 use Rattle.hazard_types.specs.Same.{same_hazard, same_event}
 use Rattle.hazard_types.specs.declared.hazard.Event.{Event}
+use Rattle.hazard_types.specs.declared.hazard.Hazard.{Hazard}
 use Rattle.hazard_types.specs.declared.line.Row.{Row}
 use Rattle.hazard_types.proofs.Equality.{hazard_one, hazard_itself, event_one, event_itself}
 use Rattle.hazard_types.proofs.OrderLaws.{by_hazard_total, by_hazard_ties, numbers_tied}
 use Rattle.event_life.specs.Periods.{keeps_open}
 use Rattle.event_life.specs.Products.{by_key, put, has_rows, is_open, is_held, later_event, going_in}
-use Rattle.event_life.proofs.Keys.{then_parts}
 use Rattle.event_life.proofs.Members.{IsIn, any_in, in_any, one_way}
 use Rattle.event_life.proofs.Puts.{put-sorted}
 use Rattle.row_index.specs.declared.numbers.Number.{Number}
@@ -36,11 +37,7 @@ by_number_total : IsTotalOrder by_number
 by_number_total = then_total (on_total (λ (k : Number). k.hazard) by_hazard_total) (on_total (λ (k : Number). k.etn) nat_cmp_total)
 
 by_number_ties : (a b : Number) → by_number a b ≡ Equal → a ≡ b
-by_number_ties a b h =
-    let p = then_parts (by_hazard a.hazard b.hazard) _ h in
-    let hazard_is = by_hazard_ties a.hazard b.hazard p.0 in
-    let etn_is = numbers_tied a.etn b.etn p.1 in
-    λ i. record { hazard = hazard_is i; etn = etn_is i }
+by_number_ties a b h = ap (λ (p : Hazard × ℕ). record { hazard = p.0; etn = p.1 }) (exact_pairs by_hazard nat_cmp by_hazard_ties numbers_tied (a.hazard, a.etn) (b.hazard, b.etn) h)
 
 itself : (n : ℕ) → (n == n) ≡ true
 itself n = grind (arith, nat_tests)

@@ -1,5 +1,6 @@
 -- How far the rows of each event reach in each area, where rows of one are put, and the events that are found by it.
 use Rattle.std.proofs.Common.{◌≡◌, ◌∙◌, ◌++◌, ◌<◌, ◌+◌, inl, inr, ℕ, zero, suc, get_or, length, take, List, [], ◌∷◌, ◌&&◌, ◌||◌, ◌==◌, not, Bool, true, false, cond, Ordering, Less, Equal, Greater, Option, Some, None, Result, Ok, Err, OnOk, refl, ap, sym, subst, arith}
+use Rattle.std.proofs.lemmas.Map.Lookups.{exact_pairs}
 use Rattle.std.specs.Prelude.{nat_le, is_none}
 use Rattle.std.proofs.lemmas.Bool.{and_parts}
 use Rattle.std.proofs.lemmas.Bool.Decides.{nat_tests}
@@ -20,7 +21,6 @@ use Rattle.hazard_types.proofs.Equality.{event_itself, event_one}
 use Rattle.hazard_types.proofs.OrderLaws.{by_end_ties, by_event_total, by_event_ties, by_place_total, by_place_ties, numbers_tied}
 use Rattle.event_life.specs.Periods.{ends_after, is_live}
 use Rattle.event_life.specs.Products.{put, row_at}
-use Rattle.event_life.proofs.Keys.{then_parts}
 use Rattle.event_life.proofs.Members.{IsIn, any_in, in_any, find_in, of_all}
 use Rattle.event_life.proofs.Puts.{at_key, at_key-parts, put-all}
 use Rattle.row_index.specs.declared.reach.Reach.{Reach}
@@ -45,20 +45,16 @@ by_reach_total = reach_laws.total-law
 
 by_reach_ties : (a b : Reach) → by_reach a b ≡ Equal → a ≡ b
 by_reach_ties a b h =
-    let p = then_parts (nat_cmp a.area b.area) _ h in
-    let q = then_parts (end_cmp a.end b.end) _ p.1 in
-    let area_is = numbers_tied a.area b.area p.0 in
-    let end_is = by_end_ties a.end b.end q.0 in
-    let spot_is = spot_ties a.spot b.spot q.1 in
-    λ i. record { area = area_is i; end = end_is i; spot = spot_is i }
+    ap (λ (p : ℕ × (End × Spot)). record { area = p.0; end = p.1.0; spot = p.1.1 })
+    (exact_pairs nat_cmp _ numbers_tied (exact_pairs end_cmp spot.cmp-value.it by_end_ties spot_ties) (a.area, (a.end, a.spot)) (b.area, (b.end, b.spot)) h)
 
 -- one of two
 
-first_one : (a b : Bool) → a ≡ true → (a || b) ≡ true
+pub first_one : (a b : Bool) → a ≡ true → (a || b) ≡ true
 first_one true b h = refl
 first_one false b h = cc
 
-second_one : (a b : Bool) → b ≡ true → (a || b) ≡ true
+pub second_one : (a b : Bool) → b ≡ true → (a || b) ≡ true
 second_one true b h = refl
 second_one false b h = h
 

@@ -29,7 +29,7 @@ use Rattle.row_index.proofs.HeldRows.{held-with, has_rows-told, told-sorted, tol
 use Rattle.row_index.proofs.Lists.{at_same, put_twice}
 use Rattle.row_index.proofs.Opened.{opened-with}
 use Rattle.row_index.specs.declared.reach.Reach.{Reach}
-use Rattle.row_index.proofs.Reached.{along_last, reaches-put}
+use Rattle.row_index.proofs.Reached.{reached-at, reached-put, reaches-put}
 use Rattle.row_index.proofs.SharedRows.{life_one}
 
 -- the rows of each event are its own, and all of them are the rows with those put
@@ -53,7 +53,7 @@ run-put e row (next ∷ rows) is all es held =
     (subst (λ (new : List (Event × List Row)). AreHeld new) twice more.0, ap told (sym twice) ∙ more.1 ∙ told_is)
 
 -- rows that are there, put
-pub rows-put : (e : Event) (rows : List Row) → (length rows == 0) ≡ false → AllByRecursion (λ (r : Row). r.event ≡ e) rows → (es new : List (Event × List Row)) (events new_events : List (Number × List Event)) (reach new_reach : List Reach)
+rows-put : (e : Event) (rows : List Row) → (length rows == 0) ≡ false → AllByRecursion (λ (r : Row). r.event ≡ e) rows → (es new : List (Event × List Row)) (events new_events : List (Number × List Event)) (reach new_reach : List Reach)
     → new ≡ held_put e rows es → new_events ≡ events_with (has_rows (list_at by_event es e) e) e events → AreReached new_reach (put_each rows (list_at by_event es e)) → Grows reach new_reach → IsIndex es events reach → IsIndex new new_events new_reach × (told new ≡ put_each rows (told es))
 rows-put e [] some all es new events new_events reach new_reach new_is events_are reached grows index = cc
 rows-put e (row ∷ rows) some all es new events new_events reach new_reach new_is events_are reached grows index =
@@ -87,6 +87,14 @@ along_some e l (z ∷ zones) h = none (length (rows_along e l zones))
   where
     none : (n : ℕ) → (suc n == 0) ≡ false
     none n = grind (arith, nat_tests)
+
+-- the rows of a run that are put, where it has a zone
+pub rows-made : (e : Event) (l : Life) (zones : List Place) → (length zones == 0) ≡ false → (es new : List (Event × List Row)) (events new_events : List (Number × List Event)) (reach new_reach : List Reach)
+    → new ≡ held_put e (rows_along e l zones) es → new_events ≡ events_with (has_rows (list_at by_event es e) e) e events → AreReached new_reach (rows_along e l zones) → Grows reach new_reach → IsIndex es events reach
+    → IsIndex new new_events new_reach × (told new ≡ put_each (rows_along e l zones) (told es))
+rows-made e l zones some es new events new_events reach new_reach new_is events_are own grows index =
+    rows-put e (rows_along e l zones) (along_some e l zones some) (along_own e l zones) es new events new_events reach new_reach new_is events_are
+    (reached-put reach new_reach (rows_along e l zones) (list_at by_event es e) grows own (reached-at e es reach index.reached)) grows index
 
 -- a line that differs from another in its zone alone leaves the same life of the same
 

@@ -3,6 +3,7 @@ use Rattle.std.proofs.Common.{◌≡◌, ◌∙◌, ℕ, zero, suc, drop, drop-c
 use Rattle.std.proofs.lemmas.Bool.{false_from_ne_true}
 use Rattle.std.proofs.lemmas.Cmp.{tied_itself}
 use Rattle.std.proofs.lemmas.List.Folds.{list_any-append}
+use Rattle.std.proofs.lemmas.Map.Lookups.{exact_pairs}
 use Rattle.std.specs.BTreeMap.{insert_entry, is_at}
 use Rattle.std.specs.Cmp.{IsTotalOrder}
 use Rattle.std.specs.BTreeMap.Range.{entries_between, range_contains, IsLeBy}
@@ -19,7 +20,7 @@ use Rattle.hazard_types.proofs.Equality.{zone_one, zone_itself, event_one, event
 use Rattle.hazard_types.proofs.OrderLaws.{by_place_total, by_place_ties, by_event_total, by_event_ties}
 use Rattle.hazard_types.specs.Orders.{by_event}
 use Rattle.event_life.specs.Products.{by_key, placed, put, row_at, concerns, is_second}
-use Rattle.event_life.proofs.Keys.{key_exact, then_parts}
+use Rattle.event_life.proofs.Keys.{key_exact}
 use Rattle.event_life.proofs.Puts.{at_key}
 use Rattle.row_index.specs.declared.seats.Seat.{Seat}
 use Rattle.row_index.specs.declared.seats.Spot.{Spot}
@@ -157,11 +158,7 @@ spot_ties Back (At e) h = cc
 spot_ties Back Back h = refl
 
 pub by_seat_ties : (a b : Seat) → by_seat a b ≡ Equal → a ≡ b
-by_seat_ties a b h =
-    let p = then_parts (by_place a.zone b.zone) _ h in
-    let zone_is = by_place_ties a.zone b.zone p.0 in
-    let spot_is = spot_ties a.spot b.spot p.1 in
-    λ i. record { zone = zone_is i; spot = spot_is i }
+by_seat_ties a b h = ap (λ (p : Place × Spot). record { zone = p.0; spot = p.1 }) (exact_pairs by_place spot.cmp-value.it by_place_ties spot_ties (a.zone, a.spot) (b.zone, b.spot) h)
 
 abbrev pub counts_at : (Line → Bool) → (Seat → Bool) → Line → Bool
 counts_at counts q line = counts line && q (key_of_line line)
@@ -197,15 +194,16 @@ second_told seats earlier line tells =
     ∙ any_same (counts_at speaks (is_at (by_seat (key_of_line line)))) (concerns line.event line.zone) earlier
     (λ l. ap (λ (b : Bool). speaks l && b) (seat_tied line.event l.event line.zone l.zone) ∙ and_assoc (speaks l) (same_event l.event line.event) (same_zone l.zone line.zone))
 
-longer_by : (i : ℕ) (lines : List Line) (line : Line) → i < length lines → line ≡ get_or lines i line → take (suc i) lines ≡ take i lines ++ line ∷ []
-longer_by i [] line within is = absurd (omega (arith, within))
-longer_by zero (d ∷ lines) line within is = ap (λ (x : Line). x ∷ []) (sym is)
-longer_by (suc i) (d ∷ lines) line within is = ap (λ (xs : List Line). d ∷ xs) (longer_by i lines line (omega (arith, within)) is)
+module _ {X : Type 0} where
+  longer_by : (i : ℕ) (xs : List X) (x : X) → i < length xs → x ≡ get_or xs i x → take (suc i) xs ≡ take i xs ++ x ∷ []
+  longer_by i [] x within is = absurd (omega (arith, within))
+  longer_by zero (y ∷ xs) x within is = ap (λ (z : X). z ∷ []) (sym is)
+  longer_by (suc i) (y ∷ xs) x within is = ap (λ (zs : List X). y ∷ zs) (longer_by i xs x (omega (arith, within)) is)
 
-pub one_longer : (lines : List Line) (i : ℕ) (line : Line) → i < length lines → line ≡ get_or lines i line → take (i + 1) lines ≡ take i lines ++ line ∷ []
-one_longer lines i line within is =
-    let next : i + 1 ≡ suc i = omega arith in
-    ap (λ (k : ℕ). take k lines) next ∙ longer_by i lines line within is
+  pub one_longer : (xs : List X) (i : ℕ) (x : X) → i < length xs → x ≡ get_or xs i x → take (i + 1) xs ≡ take i xs ++ x ∷ []
+  one_longer xs i x within is =
+      let next : i + 1 ≡ suc i = omega arith in
+      ap (λ (k : ℕ). take k xs) next ∙ longer_by i xs x within is
 
 -- what is left from a line on
 pub cut_at : (lines : List Line) (i : ℕ) (line : Line) → i < length lines → line ≡ get_or lines i line → drop i lines ≡ line ∷ drop (i + 1) lines

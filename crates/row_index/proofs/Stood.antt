@@ -1,5 +1,6 @@
 -- The rows of an event that no line has ended, counted by period.
 use Rattle.std.proofs.Common.{◌≡◌, ◌∙◌, ◌≤◌, ◌+◌, ◌-◌, ◌==◌, inl, inr, ℕ, zero, suc, List, [], ◌∷◌, ◌&&◌, ◌||◌, not, Bool, true, false, cond, Ordering, Less, Equal, Greater, Option, Some, None, unwrap_or, refl, ap, sym, subst, arith}
+use Rattle.std.proofs.lemmas.Map.Lookups.{exact_pairs}
 use Rattle.std.specs.Prelude.{nat_le, slice_get}
 use Rattle.std.proofs.lemmas.List.Elements.{recursion_from_All}
 use Rattle.std.proofs.lemmas.Bool.{and_parts}
@@ -22,7 +23,6 @@ use Rattle.hazard_types.specs.contracts.period.EndOrd.TheImpl as end_order
 use Rattle.hazard_types.proofs.Equality.{period_one}
 use Rattle.hazard_types.proofs.OrderLaws.{by_end_total, by_end_ties, numbers_tied}
 use Rattle.event_life.specs.Periods.{ends_after, is_not_long_past, same_end, same_at, is_live, keeps_open}
-use Rattle.event_life.proofs.Keys.{then_parts}
 use Rattle.event_life.proofs.Members.{IsIn, any_in, in_any, one_way}
 use Rattle.event_life.specs.declared.life.Life.{Life}
 use Rattle.row_index.specs.declared.standing.Before.{Before}
@@ -33,7 +33,7 @@ use Rattle.row_index.specs.Standings.{by_standing, period_at, standing_of, life_
 use Rattle.row_index.specs.Tallies.{tally, one, one_of, times, owed, AreTallied}
 use Rattle.row_index.specs.Steps.{has_same_period}
 use Rattle.row_index.specs.Telling.{Tells}
-use Rattle.row_index.proofs.Lists.{ascending-put}
+use Rattle.row_index.proofs.Lists.{ascending-put, value_other, value_same}
 use Rattle.row_index.proofs.Tallied.{times-nought, times-one}
 use Rattle.row_index.proofs.Tests.{any_same, and_true, and_false, at_one, at_own, remove-sorted}
 
@@ -44,11 +44,7 @@ abbrev end_cmp : End → End → Ordering
 end_cmp = end_order.cmp-value.it
 
 by_standing_ties : (a b : Standing) → by_standing a b ≡ Equal → a ≡ b
-by_standing_ties a b h =
-    let p = then_parts (end_cmp a.end b.end) _ h in
-    let end_is = by_end_ties a.end b.end p.0 in
-    let begin_is = numbers_tied a.begin b.begin p.1 in
-    λ i. record { end = end_is i; begin = begin_is i }
+by_standing_ties a b h = ap (λ (p : End × ℕ). record { end = p.0; begin = p.1 }) (exact_pairs end_cmp nat_cmp by_end_ties numbers_tied (a.end, a.begin) (b.end, b.begin) h)
 
 one_at : (k y : Standing) → is_at (by_standing k) y ≡ true → k ≡ y
 one_at = at_one by_standing by_standing_total by_standing_ties
@@ -65,27 +61,11 @@ kept_first : (b : Bool) (n : ℕ) (o p : Option ℕ) → unwrap_or o 0 ≡ unwra
 kept_first true n o p h = refl
 kept_first false n o p h = h
 
-put_own_by : (o : Ordering) (k : Standing) (n : ℕ) (e : Standing × ℕ) (es : Counts) → by_standing k e.0 ≡ o → count_at (insert_entry by_standing es k n) k ≡ n
-    → count_at (match_ordering o ((k, n) ∷ e ∷ es) ((e.0, n) ∷ es) (e ∷ insert_entry by_standing es k n)) k ≡ n
-put_own_by Less k n e es h later = rw (own_at k) refl
-put_own_by Equal k n e es h later = rw h refl
-put_own_by Greater k n e es h later = rw h later
-
 put_own : (k : Standing) (n : ℕ) (es : Counts) → count_at (insert_entry by_standing es k n) k ≡ n
-put_own k n [] = rw (own_at k) refl
-put_own k n (e ∷ es) = put_own_by (by_standing k e.0) k n e es refl (put_own k n es)
-
-put_other_by : (o : Ordering) (q k : Standing) (n : ℕ) (e : Standing × ℕ) (es : Counts) → by_standing k e.0 ≡ o → is_at (by_standing q) k ≡ false → count_at (insert_entry by_standing es k n) q ≡ count_at es q
-    → count_at (match_ordering o ((k, n) ∷ e ∷ es) ((e.0, n) ∷ es) (e ∷ insert_entry by_standing es k n)) q ≡ count_at (e ∷ es) q
-put_other_by Less q k n e es h f later = rw f refl
-put_other_by Equal q k n e es h f later =
-    let g : is_at (by_standing q) e.0 ≡ false = subst (λ (y : Standing). is_at (by_standing q) y ≡ false) (by_standing_ties k e.0 h) f in
-    rw g refl
-put_other_by Greater q k n e es h f later = kept_first (is_at (by_standing q) e.0) e.1 (lookup (is_at (by_standing q)) (insert_entry by_standing es k n)) (lookup (is_at (by_standing q)) es) later
+put_own k n es = value_same by_standing by_standing_total by_standing_ties 0 k es n
 
 put_other : (q k : Standing) (n : ℕ) (es : Counts) → is_at (by_standing q) k ≡ false → count_at (insert_entry by_standing es k n) q ≡ count_at es q
-put_other q k n [] f = rw f refl
-put_other q k n (e ∷ es) f = put_other_by (by_standing k e.0) q k n e es refl f (put_other q k n es f)
+put_other q k n es f = value_other by_standing by_standing_total by_standing_ties 0 q k es n f
 
 none_there : (k : Standing) (es : Counts) → AllByRecursion (λ y. by_standing k y ≡ Less) (keys_of es) → count_at es k ≡ 0
 none_there k [] all = refl

@@ -2,12 +2,13 @@
 use Rattle.std.proofs.Common.{◌≡◌, ◌≢◌, ◌∙◌, inl, inr, List, [], ◌∷◌, ◌&&◌, ◌||◌, not, Bool, true, false, cond, Ordering, Less, Equal, Greater, Option, Some, None, refl, ap, sym, subst}
 use Rattle.std.proofs.lemmas.Bool.{false_from_ne_true}
 use Rattle.std.proofs.lemmas.Cmp.{tied_itself}
+use Rattle.std.proofs.lemmas.Map.Views.{tells_apart}
 use Rattle.std.specs.BTreeMap.{is_at}
 use Rattle.std.specs.BTreeSet.{insert_key}
 use Rattle.std.specs.Cmp.{IsTotalOrder}
 use Rattle.std.specs.List.{AllByRecursion, filter, list_any}
 use Rattle.std.specs.List.Sorted.{IsStrictlySortedBy}
-use Rattle.std.specs.Ordering.{match_ordering, ordering_reverse, is_eq}
+use Rattle.std.specs.Ordering.{match_ordering, ordering_reverse}
 use Rattle.std.specs.Map.{keys_of}
 use Rattle.std.specs.Map.Iter.{TakesFirst}
 use Rattle.std.specs.Option.{is_some}
@@ -191,13 +192,8 @@ module _ {K : Type 0} (cmp : K → K → Ordering) (total : IsTotalOrder cmp) (t
   any_insert q k [] = refl
   any_insert q k (x ∷ xs) = put_by q (cmp k x) k x xs refl (any_insert q k xs)
 
-  tied_to : (o : Ordering) → is_eq o ≡ true → o ≡ Equal
-  tied_to Less h = cc
-  tied_to Equal h = refl
-  tied_to Greater h = cc
-
   pub at_one : (k x : K) → is_at (cmp k) x ≡ true → k ≡ x
-  at_one k x h = ties k x (tied_to (cmp k x) h)
+  at_one k x h = tells_apart ties k x h
 
   pub at_own : (k : K) → is_at (cmp k) k ≡ true
   at_own k = rw (tied_itself total k) refl

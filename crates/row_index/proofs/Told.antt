@@ -20,6 +20,7 @@ use Rattle.row_index.specs.declared.higher.Changed.{Changed}
 use Rattle.row_index.specs.declared.verdicts.Part.{Part}
 use Rattle.row_index.specs.declared.verdicts.Run.{Run}
 use Rattle.row_index.specs.declared.verdicts.Verdict.{Verdict}
+use Rattle.row_index.proofs.Reached.{first_one, second_one}
 use Rattle.row_index.proofs.Every.{every_both, every_flat, every_map, every_same, every_turned}
 
 -- what lines say in zones, with what they find there
@@ -99,20 +100,12 @@ or_both false b h k = k
 
 -- the change serves each line
 
-some_by : (a b : Bool) → b ≡ true → (a || b) ≡ true
-some_by true b h = refl
-some_by false b h = h
-
-first_by : (a b : Bool) → a ≡ true → (a || b) ≡ true
-first_by true b h = refl
-first_by false b h = cc
-
 each_upgrades : (lines : List Line) → AllByRecursion (λ (l : Line). upgrades l ≡ true → list_any upgrades lines ≡ true) lines
 each_upgrades [] = tt
 each_upgrades (l ∷ lines) = (
-  first_by (upgrades l) (list_any upgrades lines),
+  first_one (upgrades l) (list_any upgrades lines),
   every_same lines (λ (m : Line). upgrades m ≡ true → list_any upgrades lines ≡ true) (λ (m : Line). upgrades m ≡ true → (upgrades l || list_any upgrades lines) ≡ true)
-      (λ m h up. some_by (upgrades l) (list_any upgrades lines) (h up)) (each_upgrades lines),
+      (λ m h up. second_one (upgrades l) (list_any upgrades lines) (h up)) (each_upgrades lines),
 )
 
 abbrev IsServedOwn : List Row → ℕ → List Line → Changed → Line → Type 0

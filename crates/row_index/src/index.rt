@@ -20,14 +20,13 @@ ghost use Rattle.row_index.specs.Verdicts.{counts, AreFirst};
 use crate::held::{Held, RowsOf, all_shown, has_period, is_open, rows_of, seated};
 use crate::higher::{Changed, any_upgrades, is_overlapped, upgraded_by};
 use crate::live::{Zones, add_rows, lesser, needed, upgraded_ranks, upgraded_zones};
-use crate::look::{asks_alike, later_event, life_of, nothing_around, opens};
+use crate::look::{asks_alike, life_of, nothing_around, opens};
 use crate::numbers::{Events, Number, events_at, number_of};
-use crate::parts::HazardKey;
 use crate::reach::{Reaches, events_above};
 use crate::seats::{Seated, all_rows, count_row};
 use crate::spoken::SeenKeys;
 use event_life::{
-    Around, Breach, Life, is_routine, is_upgrade, leaves_row, life_step, opened_period,
+    Around, Breach, Life, is_routine, is_upgrade, later_event, leaves_row, life_step, opened_period,
 };
 use hazard_types::{Action, Event, Line, List, Minute, Oom, Row, Vtec, Zone};
 use std::alloc::Global;
@@ -185,9 +184,7 @@ impl RowIndex {
         ensures { result ≡ event_going self.now t vtec.now }
     {
         let number = Number {
-            hazard: HazardKey {
-                hazard: vtec.hazard,
-            },
+            hazard: vtec.hazard,
             etn: vtec.etn,
         };
         match vtec.action {
@@ -345,72 +342,23 @@ impl RowIndex {
         }
     }
 
-    /// Returns the first breach of a line whose row is overlapped by a higher one.
-    fn breach_but_higher(
-        &self,
-        rows: &RowsOf<'_>,
-        near: &mut usize,
-        t: Minute,
-        line: &Line,
-        second: bool,
-        around: Around,
-    ) -> Option<Breach>
-        requires rows { AreRowsOf self.now line.now.event rows.now }
-        requires around { around ≡ asked_around line.now.action self.now t line.now true }
-        ensures { result ≡ (if is_routine line.now.action then None
-            else (if second then Some Twice
-            else breach_of_line (life_at self.now line.now) line.now t
-            (around_but_higher self.now t line.now true))) }
-    {
-        self.first_breach(rows, near, t, line, second, around)
-    }
-
-    /// Returns the first breach of a UPG line. `higher` says whether a higher row overlaps its row.
-    fn breach_of_upgrade(
-        &self,
-        rows: &RowsOf<'_>,
-        near: &mut usize,
-        t: Minute,
-        line: &Line,
-        second: bool,
-        higher: bool,
-    ) -> Option<Breach>
-        requires rows { AreRowsOf self.now line.now.event rows.now }
-        requires upgrade { is_upgrade line.now.action ≡ true }
-        ensures { result ≡ (if is_routine line.now.action then None
-            else (if second then Some Twice
-            else breach_of_line (life_at self.now line.now) line.now t
-            (around_but_higher self.now t line.now higher))) }
-    {
-        self.first_breach(rows, near, t, line, second, nothing_around(higher))
-    }
-
-    /// Whether a line is lawful, not routine and not UPG, so that the row it leaves may be the
-    /// higher row of a UPG line.
-    fn may_count(
-        &self,
-        rows: &RowsOf<'_>,
-        near: &mut usize,
-        t: Minute,
-        line: &Line,
-        second: bool,
-    ) -> bool
+    /// Whether a line, if it is no second one, is lawful, not routine and not UPG, so that the row
+    /// it leaves may be the higher row of a UPG line.
+    fn may_count(&self, rows: &RowsOf<'_>, near: &mut usize, t: Minute, line: &Line) -> bool
         requires { AreRowsOf self.now line.now.event rows.now }
         ensures { result ≡ (not (is_routine line.now.action)
             && not (is_upgrade line.now.action)
-            && not second
             && is_none (breach_of_line (life_at self.now line.now) line.now t
             (around_but_higher self.now t line.now true))) }
     {
-        let breach = self.breach_but_higher(
-            rows,
-            near,
-            t,
-            line,
-            second,
-            self.around(rows, t, line, true),
-        );
-        !is_routine(&line.action) && !is_upgrade(&line.action) && !second && breach.is_none()
+        if is_routine(&line.action) {
+            return false;
+        }
+        if is_upgrade(&line.action) {
+            return false;
+        }
+        let around = self.around(rows, t, line, true);
+        self.step_breach(rows, near, t, line, around).is_none()
     }
 
     /// Returns the rows that the lawful lines other than UPG leave.
@@ -425,10 +373,10 @@ impl RowIndex {
         for line in lines {
             let second = spoken.mark_seen(!is_routine(&line.action), line)?;
             let rows = self.rows_of(&line.event);
-            let counts = self.may_count(&rows, &mut near, t, line, second);
+            let lawful = self.may_count(&rows, &mut near, t, line);
             count_row(
                 &mut counted,
-                counts,
+                is_counted(second, lawful),
                 &self.row_after(&rows, &mut near, t, line),
             )?;
         }
@@ -453,7 +401,7 @@ impl RowIndex {
             else values_of counted.old.entries)) }
         ensures seated { OnOk result (AreSeated counted.new.entries) }
     {
-        if !self.may_count(rows, near, t, line, false) {
+        if !self.may_count(rows, near, t, line) {
             return Ok(());
         }
         let row = self.row_after(rows, near, t, line);
@@ -461,7 +409,12 @@ impl RowIndex {
     }
 
     /// `counted` for lines of which none is a second one of its event and zone.
-    fn counted_first(&self, alloc: Global, t: Minute, lines: &[Line]) -> Result<Seated, Oom>
+    pub(crate) fn counted_first(
+        &self,
+        alloc: Global,
+        t: Minute,
+        lines: &[Line],
+    ) -> Result<Seated, Oom>
         requires first { AreFirst [] lines.now }
         ensures rows { IfOk result
             (λ counted. values_of counted.entries ≡ rows_after_all_but_upgrades self.now t [] lines.now []) }
@@ -543,15 +496,18 @@ impl RowIndex {
         self.live_rows(alloc, from, &zones, &events)
     }
 
-    /// Returns what a product changes for the search for higher rows, if none of its lines is a
-    /// second one of its event and zone.
-    pub(crate) fn change_first(
+    /// Returns what a product changes for the search for higher rows. `counted` are the rows that
+    /// its lawful lines other than UPG leave.
+    pub(crate) fn change_with(
         &self,
         alloc: Global,
         t: Minute,
         lines: &[Line],
+        counted: Seated,
     ) -> Result<Changed, Oom>
-        requires first { AreFirst [] lines.now }
+        requires rows { values_of counted.entries
+            ≡ rows_after_all_but_upgrades self.now t [] lines.now [] }
+        requires seated { AreSeated counted.entries }
         ensures changed { IfOk result
             (λ c. IsChanged self.now t lines.now (values_of c.counted.entries) c.upgraded.keys) }
         ensures over { IfOk result
@@ -559,7 +515,6 @@ impl RowIndex {
         ensures counted { IfOk result (λ c. AreSeated c.counted.entries) }
         ensures higher { IfOk result (λ c. AreSeated c.higher.entries) }
     {
-        let counted = self.counted_first(alloc, t, lines)?;
         let upgraded = upgraded_by(alloc, lines)?;
         let higher = self.higher(alloc, t, lines)?;
         Ok(Changed {
@@ -588,13 +543,7 @@ impl RowIndex {
             });
         }
         let counted = self.counted(alloc, t, lines)?;
-        let upgraded = upgraded_by(alloc, lines)?;
-        let higher = self.higher(alloc, t, lines)?;
-        Ok(Changed {
-            counted,
-            upgraded,
-            higher,
-        })
+        self.change_with(alloc, t, lines, counted)
     }
 
     /// Whether a higher row overlaps the row of a UPG line after the product, or the line's hazard
@@ -646,10 +595,10 @@ impl RowIndex {
             → result ≡ breach_in self.now t lines earlier line.now }
     {
         if !is_upgrade(&line.action) {
-            return self.breach_but_higher(rows, near, t, line, second, around);
+            return self.first_breach(rows, near, t, line, second, around);
         }
         let higher = self.has_higher(changed, t, line, &self.own_row(rows, near, line));
-        self.breach_of_upgrade(rows, near, t, line, second, higher)
+        self.first_breach(rows, near, t, line, second, nothing_around(higher))
     }
 
     /// Returns the lines of a product in order, each with its first breach, or `None` if it is
@@ -701,4 +650,11 @@ impl RowIndex {
         let rows = all_rows(alloc, &seated(alloc, &rows)?)?;
         Ok(List::from_vec(rows))
     }
+}
+
+/// Whether a line leaves a row that counts: it is lawful and no second one of its event and zone.
+fn is_counted(second: bool, lawful: bool) -> bool
+    ensures { result ≡ (not second && lawful) }
+{
+    !second && lawful
 }

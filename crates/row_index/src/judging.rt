@@ -136,37 +136,9 @@ impl RowIndex {
         count
     }
 
-    /// Returns in how many of the zones, from the first on, a line has this verdict. A line other
-    /// than UPG is judged by its life alone, so the zones are compared by that.
-    fn count_of(
-        &self,
-        asking: &Asking<'_>,
-        near: &mut usize,
-        verdict: &Verdict,
-        zones: &[Zone],
-    ) -> usize
-        requires asking { IsAsking self.now asking.now }
-        requires line { verdict.now.line ≡ asking.now.line }
-        ensures within { result ≤ length zones.now }
-        ensures judged { (all : Seq LineValue) (first : Place) →
-            IsAlike self.now all asking.now verdict.now first
-            → AllByRecursion (IsServed self.now all asking.now) zones.now
-            → AllByRecursion (IsAlike self.now all asking.now verdict.now) (take result zones.now) }
-    {
-        if is_upgrade(&asking.line.action) {
-            return self.count_upgraded(asking, near, verdict, zones);
-        }
-        count_alike(
-            &asking.rows,
-            near,
-            &asking.line.event,
-            &verdict.found,
-            zones,
-        )
-    }
-
     /// Judges a line in `first`, and returns its verdict and in how many zones at the start of
-    /// `rest` it has the same.
+    /// `rest` it has the same. A line other than UPG is judged by its life alone, so the zones are
+    /// compared by that.
     fn find_first(
         &self,
         asking: &Asking<'_>,
@@ -183,7 +155,12 @@ impl RowIndex {
             (first.now ∷ take result.1 rest.now) }
     {
         let verdict = self.verdict_at(asking, near, first);
-        let more = self.count_of(asking, near, &verdict, rest);
+        if is_upgrade(&asking.line.action) {
+            let more = self.count_upgraded(asking, near, &verdict, rest);
+            return (verdict, more);
+        }
+        let event = &asking.line.event;
+        let more = count_alike(&asking.rows, near, event, &verdict.found, rest);
         (verdict, more)
     }
 
@@ -333,7 +310,9 @@ impl RowIndex {
             return self.change_of(alloc, t, &[]);
         }
         let lines = lines_in(alloc, parts)?;
-        self.change_first(alloc, t, lines.as_slice())
+        let all = lines.as_slice();
+        let counted = self.counted_first(alloc, t, all)?;
+        self.change_with(alloc, t, all, counted)
     }
 
     /// Judges the lines of a product one by one and returns them as runs: `expand` makes of these

@@ -2,9 +2,8 @@
 ghost use Rattle.std.specs.Prelude.{◌≡◌, IfOk};
 ghost use Rattle.event_life.specs.Products.{lawful_of, put_all};
 ghost use Rattle.row_index.specs.LineRows.{rows_of_line, rows_of_run, rows_of_runs};
-ghost use Rattle.row_index.specs.Runs.{rows_along};
 ghost use Rattle.row_index.specs.Steps.{put_each};
-ghost use Rattle.row_index.specs.Verdicts.{left_by, expand, AreApart, AreFound};
+ghost use Rattle.row_index.specs.Verdicts.{expand, AreApart, AreFound};
 
 use crate::held::put_held;
 use crate::index::RowIndex;
@@ -14,17 +13,20 @@ use hazard_types::{Line, List, Minute, Oom, Zone};
 use std::alloc::Global;
 
 impl RowIndex {
-    /// Puts the rows that a lawful line leaves in `zones`.
-    fn insert_rows_after(
+    /// Puts the rows that a line leaves in `zones`, if it is lawful.
+    fn put_line(
         self,
         alloc: Global,
         t: Minute,
         verdict: &Verdict,
         zones: &[Zone],
     ) -> Result<Self, Oom>
-        ensures { IfOk result (λ index. index
-            ≡ put_each (rows_along verdict.now.line.event (left_by t verdict.now) zones.now) self) }
+        ensures { IfOk result
+            (λ index. index ≡ put_each (rows_of_line t zones.now verdict.now) self) }
     {
+        if !verdict.leaves_row() {
+            return Ok(self);
+        }
         if zones.is_empty() {
             return Ok(self);
         }
@@ -48,24 +50,6 @@ impl RowIndex {
             events,
             reach,
         })
-    }
-
-    /// Puts the rows that a line leaves in `zones`, if it is lawful.
-    fn put_line(
-        self,
-        alloc: Global,
-        t: Minute,
-        verdict: &Verdict,
-        zones: &[Zone],
-    ) -> Result<Self, Oom>
-        ensures { IfOk result
-            (λ index. index ≡ put_each (rows_of_line t zones.now verdict.now) self) }
-    {
-        if verdict.leaves_row() {
-            self.insert_rows_after(alloc, t, verdict, zones)
-        } else {
-            Ok(self)
-        }
     }
 
     /// Puts the rows that the lawful lines of a run leave.

@@ -89,27 +89,6 @@ fn add_row(higher: &mut Seated, t: Minute, row: &Option<Row>) -> Result<(), Oom>
     }
 }
 
-/// Adds the live rows of an event in `zones`, zone by zone. `rows` are the event's.
-fn add_in_zones(
-    higher: &mut Seated,
-    rows: &RowsOf<'_>,
-    zones: &Zones,
-    t: Minute,
-    event: &Event,
-) -> Result<(), Oom>
-    requires { AreSeated higher.old.entries }
-    ensures rows { OnOk result (IsLive t event.now (has_zone zones.now.keys) rows.now
-        (values_of higher.old.entries) (values_of higher.new.entries)) }
-    ensures seated { OnOk result (AreSeated higher.new.entries) }
-{
-    let mut near = 0;
-    for zone in zones {
-        let row = rows.row_at(&mut near, event, zone);
-        add_row(higher, t, &row)?;
-    }
-    Ok(())
-}
-
 /// Returns the row of an event in a zone if `zones` has it. `rows` are the event's, and `near` is a
 /// guess of the row's index.
 fn row_among(
@@ -166,12 +145,16 @@ pub fn add_rows(
         (values_of higher.old.entries) (values_of higher.new.entries)) }
     ensures seated { OnOk result (AreSeated higher.new.entries) }
 {
-    if zones.len() <= rows.count() {
-        add_in_zones(higher, rows, zones, t, event)
-    } else {
+    if zones.len() > rows.count() {
         let all = rows.all(alloc)?;
-        add_among(higher, &all, rows, zones, t, event)
+        return add_among(higher, &all, rows, zones, t, event);
     }
+    let mut near = 0;
+    for zone in zones {
+        let row = rows.row_at(&mut near, event, zone);
+        add_row(higher, t, &row)?;
+    }
+    Ok(())
 }
 
 /// Returns the later of the two minutes.

@@ -348,7 +348,12 @@ impl LifeMap {
 
     /// Sets a life for each of the zones, and returns the lives that it replaces. On `Oom` the map
     /// is empty.
-    fn put_each(&mut self, alloc: Global, life: &Life, zones: &[Zone]) -> Result<Vec<Before>, Oom>
+    pub fn put_each(
+        &mut self,
+        alloc: Global,
+        life: &Life,
+        zones: &[Zone],
+    ) -> Result<Vec<Before>, Oom>
         ensures set { OnOk result (self.new ≡ lives_put life.now zones.now self.old) }
         ensures before { IfOk result (λ befores. (p : LifeValue → Bool) →
             IsTallied p (values_of self.old) (values_of self.new) befores.items
@@ -420,31 +425,13 @@ impl LifeMap {
         self.lives.len() > self.zones.saturating_mul(2).saturating_add(SPARE)
     }
 
-    /// Drops unreferenced lives once they outnumber the others.
-    fn compact(&mut self, alloc: Global, event: &Event) -> Result<(), Oom>
+    /// Drops unreferenced lives once they outnumber the others. The event is any.
+    pub fn compact(&mut self, alloc: Global, event: &Event) -> Result<(), Oom>
         ensures { self.new ≡ self.old }
     {
         if self.is_loose() {
             *self = self.compacted(alloc, event)?;
         }
         Ok(())
-    }
-
-    /// Sets a life of an event for each of the zones, and returns the lives that it replaces. On
-    /// `Oom` lives may be lost.
-    pub fn set(
-        &mut self,
-        alloc: Global,
-        event: &Event,
-        life: &Life,
-        zones: &[Zone],
-    ) -> Result<Vec<Before>, Oom>
-        ensures set { OnOk result (self.new ≡ lives_put life.now zones.now self.old) }
-        ensures before { IfOk result (λ befores. (p : LifeValue → Bool) →
-            IsTallied p (values_of self.old) (values_of self.new) befores.items
-            (length zones.now) life.now) }
-    {
-        self.compact(alloc, event)?;
-        self.put_each(alloc, life, zones)
     }
 }

@@ -1,7 +1,6 @@
 //! What is read off a line, a life or two of them, without a walk.
 ghost use Rattle.std.specs.Prelude.{◌≡◌, option_map};
 ghost use Rattle.event_life.specs.Lives.{opens};
-ghost use Rattle.event_life.specs.Products.{later_event};
 ghost use Rattle.row_index.specs.Runs.{in_zone, is_alike, same_life};
 ghost use Rattle.row_index.specs.Steps.{asks_alike, nothing_around, has_same_period};
 
@@ -44,22 +43,6 @@ pub fn same_life(a: &Option<Life>, b: &Option<Life>) -> bool
     ensures { result ≡ same_life a.now b.now }
 {
     *a == *b
-}
-
-/// Returns the event of the later year; `best` if the years are equal.
-pub fn later_event(best: Option<Event>, event: &Event) -> Option<Event>
-    ensures { result ≡ later_event best event.now }
-{
-    match best {
-        Some(best) => {
-            if best.year < event.year {
-                Some(*event)
-            } else {
-                Some(best)
-            }
-        }
-        None => Some(*event),
-    }
 }
 
 /// Returns the facts about other rows for a line that needs none but `higher`.

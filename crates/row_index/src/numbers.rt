@@ -6,15 +6,14 @@ ghost use Rattle.hazard_types.specs.Same.{same_event};
 ghost use Rattle.row_index.specs.Listing.{lists_of, list_at};
 ghost use Rattle.row_index.specs.Numbers.{number_of, by_number, with_event, events_with};
 
-use crate::parts::HazardKey;
-use hazard_types::{Event, Oom};
+use hazard_types::{Event, Hazard, Oom};
 use std::alloc::Global;
 use std::collections::BTreeMap;
 
 /// A hazard and an event tracking number. Events of several years may have both.
 #[derive(Clone, Copy, PartialEq, Eq, PartialOrd, Ord)]
 pub struct Number {
-    pub hazard: HazardKey,
+    pub hazard: Hazard,
     pub etn: u16,
 }
 
@@ -26,9 +25,7 @@ pub fn number_of(event: &Event) -> Number
     ensures { result ≡ number_of event.now }
 {
     Number {
-        hazard: HazardKey {
-            hazard: event.hazard,
-        },
+        hazard: event.hazard,
         etn: event.etn,
     }
 }

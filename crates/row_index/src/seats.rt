@@ -7,7 +7,7 @@ ghost use Rattle.row_index.specs.Numbers.{is_in_zone};
 ghost use Rattle.row_index.specs.Seating.{AreSeated, seat_at, has_seat, seats_with};
 
 use crate::keys::add_key;
-use crate::parts::{EventKey, ZoneKey};
+use crate::parts::EventKey;
 use hazard_types::{Event, Line, Oom, Row, Zone};
 use std::alloc::{AllocError, Global};
 use std::collections::btree_map::Range;
@@ -24,7 +24,7 @@ pub enum Spot {
 /// The key of a row: its zone, then its position there.
 #[derive(Clone, Copy, PartialEq, Eq, PartialOrd, Ord)]
 pub struct Seat {
-    pub zone: ZoneKey,
+    pub zone: Zone,
     pub spot: Spot,
 }
 
@@ -38,7 +38,7 @@ fn seat_at(event: &Event, zone: &Zone) -> Seat
     ensures { result ≡ seat_at event.now zone.now }
 {
     Seat {
-        zone: ZoneKey { zone: *zone },
+        zone: *zone,
         spot: Spot::At(EventKey { event: *event }),
     }
 }
@@ -57,7 +57,7 @@ pub fn add_seat(seats: &mut Seats, counts: bool, line: &Line) -> Result<(), Oom>
     if counts {
         let spot = Spot::At(EventKey { event: line.event });
         let seat = Seat {
-            zone: ZoneKey { zone: line.zone },
+            zone: line.zone,
             spot,
         };
         add_key(seats, seat)?;
@@ -102,7 +102,7 @@ pub fn put_seated(seated: &mut Seated, row: &Row, before: &mut Option<Row>) -> R
 {
     let spot = Spot::At(EventKey { event: row.event });
     let seat = Seat {
-        zone: ZoneKey { zone: row.zone },
+        zone: row.zone,
         spot,
     };
     set(seated, seat, row, before)
@@ -129,11 +129,11 @@ pub fn seated_in<'a>(seated: &'a Seated, zone: &Zone) -> Range<'a, Seat, Row>
     ensures { values_of result ≡ filter (is_in_zone zone.now) (values_of seated.now.entries) }
 {
     let front = Seat {
-        zone: ZoneKey { zone: *zone },
+        zone: *zone,
         spot: Spot::Front,
     };
     let back = Seat {
-        zone: ZoneKey { zone: *zone },
+        zone: *zone,
         spot: Spot::Back,
     };
     seated.range(front..back)

@@ -104,7 +104,8 @@ impl SharedRows {
             (length zones.now) life.now) }
     {
         self.event = Some(*event);
-        self.lives.set(alloc, event, life, zones)
+        self.lives.compact(alloc, event)?;
+        self.lives.put_each(alloc, life, zones)
     }
 
     /// Drops all rows.

@@ -4,7 +4,7 @@ ghost use Rattle.row_index.specs.Seating.{key_of_line, has_seat};
 ghost use Rattle.row_index.specs.Risen.{is_behind, last_said, rising_with, seats_of, IsFree, Joins, Says};
 
 use crate::keys::add_key;
-use crate::parts::{EventKey, ZoneKey};
+use crate::parts::EventKey;
 use crate::seats::{Seat, Seats, Spot, add_seat, has_seat};
 use hazard_types::{Line, Oom};
 use std::alloc::Global;
@@ -24,7 +24,7 @@ fn key_of_line(line: &Line) -> Seat
 {
     let spot = Spot::At(EventKey { event: line.event });
     Seat {
-        zone: ZoneKey { zone: line.zone },
+        zone: line.zone,
         spot,
     }
 }

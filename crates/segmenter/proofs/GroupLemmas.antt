@@ -65,7 +65,7 @@ some_by : (b : Bool) (line other : SegLine) (others : List SegLine) → cond b (
 some_by true line other others e = cc
 some_by false line other others e = cc
 
-placed_some : (line : SegLine) (lines : List SegLine) → placed line lines ≢ []
+pub placed_some : (line : SegLine) (lines : List SegLine) → placed line lines ≢ []
 placed_some line [] e = cc
 placed_some line (other ∷ others) e = some_by (is_lt (by_line line other)) line other others e
 

@@ -10,16 +10,15 @@ use Rattle.segmenter.specs.declared.groups.Head.{Head}
 abbrev Lists : Type 0
 Lists = Vec SegLine Global
 
-by_order : (o : Ordering) (e : Head × Lists) (es : List (Head × Lists)) (h : Head) (v : Lists) (tail : Heads) → heads_view (insert_entry by_head es h v) ≡ tail
-    → heads_view (match_ordering o ((h, v) ∷ e ∷ es) ((e.0, v) ∷ es) (e ∷ insert_entry by_head es h v))
-    ≡ match_ordering o ((h, v.items) ∷ (e.0, e.1.items) ∷ heads_view es) ((e.0, v.items) ∷ heads_view es) ((e.0, e.1.items) ∷ tail)
-by_order Less e es h v tail later = refl
-by_order Equal e es h v tail later = refl
-by_order Greater e es h v tail later = rw later refl
-
 heads_view-insert : (es : List (Head × Lists)) (h : Head) (v : Lists) → heads_view (insert_entry by_head es h v) ≡ insert_entry by_head (heads_view es) h v.items
 heads_view-insert [] h v = refl
-heads_view-insert (e ∷ es) h v = by_order (by_head h e.0) e es h v _ (heads_view-insert es h v)
+heads_view-insert (e ∷ es) h v = by_order (by_head h e.0) (heads_view-insert es h v)
+  where
+    by_order : (o : Ordering) → heads_view (insert_entry by_head es h v) ≡ insert_entry by_head (heads_view es) h v.items → heads_view (match_ordering o ((h, v) ∷ e ∷ es) ((e.0, v) ∷ es) (e ∷ insert_entry by_head es h v))
+        ≡ match_ordering o ((h, v.items) ∷ heads_view (e ∷ es)) ((e.0, v.items) ∷ heads_view es) ((e.0, e.1.items) ∷ insert_entry by_head (heads_view es) h v.items)
+    by_order Less later = refl
+    by_order Equal later = refl
+    by_order Greater later = ap (λ (heads : Heads). (e.0, e.1.items) ∷ heads) later
 
 at_first : (heads : Heads) (g : Group) (lines : List SegLine) (line : SegLine) → slice_get lines 0 ≡ Some line
     → insert_entry by_head heads (record { zone = g.zone; first = line.event }) lines ≡ add_head heads g lines

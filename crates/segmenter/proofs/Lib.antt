@@ -10,5 +10,6 @@ pub mod PlaceLemmas
 pub mod PutLemmas
 pub mod RisingLemmas
 pub mod ExpiryLemmas
+pub mod ExpiryLow
 pub mod SaidLemmas
 pub mod OneGroupLemmas

@@ -1,23 +1,15 @@
 -- Lines that are all of one group make one segment.
-use Rattle.std.proofs.Common.{◌≡◌, ◌≢◌, ◌∙◌, ◌≤◌, List, [], ◌∷◌, Bool, true, false, cond, fold, length, get_or, refl, ap, arith}
+use Rattle.std.proofs.Common.{◌≡◌, ◌≢◌, ◌∙◌, ◌≤◌, List, [], ◌∷◌, true, fold, length, get_or, refl, ap, arith}
 use Rattle.std.specs.List.{list_all}
-use Rattle.std.specs.Ordering.{is_lt}
 use Rattle.std.proofs.lemmas.Bool.{and_parts}
 use Rattle.hazard_types.specs.declared.line.Line.{Line}
 use Rattle.hazard_types.specs.declared.line.SegLine.{SegLine}
 use Rattle.hazard_types.specs.declared.line.Segment.{Segment}
-use Rattle.segmenter.specs.Groups.{group_of, without_zone, same_group, by_line, placed}
+use Rattle.segmenter.specs.Groups.{group_of, without_zone, same_group, placed}
 use Rattle.segmenter.specs.OneGroup.{are_of_one_group, in_order}
 use Rattle.segmenter.specs.Steps.{Groups, put, groups_of, heads_of, classes_of, segments_of}
 use Rattle.segmenter.specs.declared.groups.Group.{Group}
-
-some_by : (b : Bool) (line other : SegLine) (others : List SegLine) → cond b (line ∷ other ∷ others) (other ∷ placed line others) ≢ []
-some_by true line other others h = cc
-some_by false line other others h = cc
-
-placed_some : (line : SegLine) (others : List SegLine) → placed line others ≢ []
-placed_some line [] h = cc
-placed_some line (other ∷ others) h = some_by (is_lt (by_line line other)) line other others h
+use Rattle.segmenter.proofs.GroupLemmas.{placed_some}
 
 order_some : (ordered : List SegLine) (lines : List Line) → ordered ≢ [] → fold (λ (so_far : List SegLine) (line : Line). placed (without_zone line) so_far) ordered lines ≢ []
 order_some ordered [] some = some

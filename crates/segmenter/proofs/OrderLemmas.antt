@@ -44,7 +44,7 @@ all_by : (P : SegLine → Type 0) (b : Bool) (line other : SegLine) (others : Li
 all_by P true line other others here all more = (here, all)
 all_by P false line other others here all more = (all.0, more)
 
-all_placed : (P : SegLine → Type 0) (line : SegLine) (others : List SegLine) → P line → AllByRecursion P others → AllByRecursion P (placed line others)
+pub all_placed : (P : SegLine → Type 0) (line : SegLine) (others : List SegLine) → P line → AllByRecursion P others → AllByRecursion P (placed line others)
 all_placed P line [] here all = (here, tt)
 all_placed P line (other ∷ others) here all = all_by P (is_lt (by_line line other)) line other others here all (all_placed P line others here all.1)
 

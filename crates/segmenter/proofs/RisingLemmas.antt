@@ -1,15 +1,16 @@
 -- The groups' lists by zone and first event: none is lost, and they are in order.
-use Rattle.std.proofs.Common.{◌≡◌, ◌∙◌, ◌⊎◌, inl, inr, List, [], ◌∷◌, Ordering, Less, Equal, Greater, false, map, fold, Option, Some, None, refl, ap, sym, subst, true≢false}
+use Rattle.std.proofs.Common.{◌≡◌, ◌∙◌, ◌⊎◌, inl, inr, List, [], ◌∷◌, Equal, false, map, fold, Option, Some, None, refl, ap, sym, subst, true≢false}
 use Rattle.std.specs.Prelude.{◌≢◌}
 use Rattle.std.specs.Cmp.{IsTotalOrder}
 use Rattle.std.specs.List.{IsDistinct}
 use Rattle.std.specs.List.Sorted.{IsStrictlySortedBy}
-use Rattle.std.specs.Ordering.{ordering_then}
 use Rattle.std.proofs.lemmas.Cmp.{then_total, on_total}
+use Rattle.std.proofs.lemmas.Map.Lookups.{exact_pairs}
 use Rattle.hazard_types.specs.declared.hazard.Event.{Event}
 use Rattle.hazard_types.specs.declared.line.Line.{Line}
 use Rattle.hazard_types.specs.declared.line.SegLine.{SegLine}
-use Rattle.hazard_types.specs.Places.{by_place}
+use Rattle.hazard_types.specs.Orders.{by_event}
+use Rattle.hazard_types.specs.Places.{Place, by_place}
 use Rattle.hazard_types.proofs.OrderLaws.{by_place_total, by_event_total, by_place_ties, by_event_ties}
 use Rattle.segmenter.specs.declared.groups.Group.{Group}
 use Rattle.segmenter.specs.declared.groups.Head.{Head}
@@ -22,20 +23,11 @@ use Rattle.segmenter.proofs.InsertLemmas.{inserted_from, inserted, inserted_rise
 
 -- ---- the order of heads
 
-both_tied : (o p : Ordering) → ordering_then o p ≡ Equal → (o ≡ Equal) × (p ≡ Equal)
-both_tied Less p h = cc
-both_tied Equal p h = (refl, h)
-both_tied Greater p h = cc
-
 pub by_head_total : IsTotalOrder by_head
 by_head_total = then_total (on_total (λ (h : Head). h.zone) by_place_total) (on_total (λ (h : Head). h.first) by_event_total)
 
 pub by_head_ties : (a b : Head) → by_head a b ≡ Equal → a ≡ b
-by_head_ties a b h =
-    let p = both_tied (by_place a.zone b.zone) _ h in
-    let zone_is = by_place_ties a.zone b.zone p.0 in
-    let first_is = by_event_ties a.first b.first p.1 in
-    λ i. record { zone = zone_is i; first = first_is i }
+by_head_ties a b h = ap (λ (p : Place × Event). record { zone = p.0; first = p.1 }) (exact_pairs by_place by_event by_place_ties by_event_ties (a.zone, a.first) (b.zone, b.first) h)
 
 -- ---- the head of a group
 

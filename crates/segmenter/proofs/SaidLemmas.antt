@@ -1,10 +1,12 @@
 -- What a text says of a product's lines: each of them, once.
-use Rattle.std.proofs.Common.{◌≡◌, ◌∙◌, ◌⊎◌, inl, inr, ℕ, zero, suc, ◌<◌, length, get_or, arith, List, [], ◌∷◌, ◌++◌, Less, Bool, true, false, cond, fold, map, refl, ap, sym, subst}
+use Rattle.std.proofs.Common.{◌≡◌, ◌∙◌, ◌⊎◌, inl, inr, zero, suc, arith, List, [], ◌∷◌, ◌++◌, Less, Bool, true, false, cond, fold, map, refl, ap, sym, subst}
 use Rattle.std.specs.Prelude.{◌≢◌, ◌↔◌}
 use Rattle.std.specs.List.{filter, flat_map, AllByRecursion, AllPairs, Contains}
 use Rattle.std.specs.List.Sorted.{IsStrictlySortedBy}
 use Rattle.std.specs.Ordering.{is_lt}
 use Rattle.std.proofs.lemmas.Cmp.{tied_itself}
+use Rattle.std.proofs.lemmas.List.Elements.{All-from_recursion, recursion_from_All}
+use Rattle.std.proofs.lemmas.List.Kept.{AllPairs-cons}
 use Rattle.hazard_types.specs.Places.{Place, by_place}
 use Rattle.hazard_types.specs.declared.line.Line.{Line}
 use Rattle.hazard_types.specs.declared.line.SegLine.{SegLine}
@@ -18,6 +20,7 @@ use Rattle.segmenter.specs.Segments.{Has, AreSegments}
 use Rattle.segmenter.proofs.GroupLemmas.{group_one, line_from}
 use Rattle.segmenter.proofs.HasLemmas.{all_at, all_from, has_kept, has_mapped, has_some, mapped_from}
 use Rattle.segmenter.proofs.LawLemmas.{said}
+use Rattle.segmenter.proofs.OrderLemmas.{all_placed}
 
 -- ---- what a list has, by places
 
@@ -38,26 +41,14 @@ module _ {X : Type 0} where
   Pairs R [] = Unit {0}
   Pairs R (x ∷ xs) = AllByRecursion (R x) xs × Pairs R xs
 
-  all_place : (P : X → Type 0) (xs : List X) (j : ℕ) (d : X) → j < length xs → AllByRecursion P xs → P (get_or xs j d)
-  all_place P [] j d lt all = absurd (omega (arith, lt))
-  all_place P (x ∷ xs) zero d lt all = all.0
-  all_place P (x ∷ xs) (suc j) d lt all = all_place P xs j d (omega (arith, lt)) all.1
-
   pairs_to : (R : X → X → Type 0) (xs : List X) → Pairs R xs → AllPairs R xs
-  pairs_to R [] all i j d le lt = absurd (omega (arith, lt))
-  pairs_to R (x ∷ xs) all zero zero d le lt = absurd (omega (arith, le))
-  pairs_to R (x ∷ xs) all zero (suc j) d le lt = all_place (R x) xs j d (omega (arith, lt)) all.0
-  pairs_to R (x ∷ xs) all (suc i) zero d le lt = absurd (omega (arith, le))
-  pairs_to R (x ∷ xs) all (suc i) (suc j) d le lt = pairs_to R xs all.1 i j d (omega (arith, le)) (omega (arith, lt))
-
-  all_from_places : (P : X → Type 0) (xs : List X) → ((j : ℕ) (d : X) → j < length xs → P (get_or xs j d)) → AllByRecursion P xs
-  all_from_places P [] each = tt
-  all_from_places P (x ∷ xs) each = (each 0 x (omega arith), all_from_places P xs (λ j d lt. each (suc j) d (omega (arith, lt))))
+  pairs_to R [] all = λ i j d le lt. absurd (omega (arith, lt))
+  pairs_to R (x ∷ xs) all = AllPairs-cons R x xs (All-from_recursion (R x) xs all.0) (pairs_to R xs all.1)
 
   pairs_of : (R : X → X → Type 0) (xs : List X) → AllPairs R xs → Pairs R xs
   pairs_of R [] each = tt
   pairs_of R (x ∷ xs) each = (
-    all_from_places (R x) xs (λ j d lt. each 0 (suc j) d (omega arith) (omega (arith, lt))),
+    recursion_from_All (R x) xs (λ j d lt. each 0 (suc j) d (omega arith) (omega (arith, lt))),
     pairs_of R xs (λ i j d le lt. each (suc i) (suc j) d (omega (arith, le)) (omega (arith, lt))),
   )
 
@@ -164,15 +155,6 @@ Differ k l = k.event ≢ l.event
 
 differ_back : (k l : SegLine) → Differ k l → Differ l k
 differ_back k l differs e = differs (sym e)
-
-all_before : (P : SegLine → Type 0) (b : Bool) (line other : SegLine) (others : List SegLine) → P line → AllByRecursion P (other ∷ others) → AllByRecursion P (placed line others)
-    → AllByRecursion P (cond b (line ∷ other ∷ others) (other ∷ placed line others))
-all_before P true line other others here all more = (here, all)
-all_before P false line other others here all more = (all.0, more)
-
-all_placed : (P : SegLine → Type 0) (line : SegLine) (others : List SegLine) → P line → AllByRecursion P others → AllByRecursion P (placed line others)
-all_placed P line [] here all = (here, tt)
-all_placed P line (other ∷ others) here all = all_before P (is_lt (by_line line other)) line other others here all (all_placed P line others here all.1)
 
 pairs_before : (b : Bool) (line other : SegLine) (others : List SegLine) → AllByRecursion (Differ line) (other ∷ others) → Pairs Differ (other ∷ others) → Pairs Differ (placed line others)
     → Pairs Differ (cond b (line ∷ other ∷ others) (other ∷ placed line others))

@@ -1,19 +1,12 @@
 -- The minute at which a segment's text expires.
 use Rattle.std.specs.Prelude.{◌≡◌, ◌||◌, ◌<◌, ⊤, ℕ, ◌+◌, Bool, true, false, List, fold, min, if◌then◌else◌}
 use Rattle.std.specs.List.{All, list_any}
+pub use Rattle.hazard_types.specs.Actions.{leaves_live}
 use Rattle.hazard_types.specs.declared.codes.Action.{Action}
-use Rattle.hazard_types.specs.declared.codes.Action.TheVariants.{Upg, Can, Exp, Rou}
+use Rattle.hazard_types.specs.declared.codes.Action.TheVariants.{Rou}
 use Rattle.hazard_types.specs.declared.line.SegLine.{SegLine}
 use Rattle.hazard_types.specs.declared.period.End.{End}
 use Rattle.hazard_types.specs.declared.period.End.TheVariants.{At, Ufn}
-
--- UPG, CAN and EXP end a row, and ROU speaks of none; every other line leaves its row live
-abbrev pub leaves_live : Action → Bool
-leaves_live Upg = false
-leaves_live Can = false
-leaves_live Exp = false
-leaves_live Rou = false
-leaves_live _ = true
 
 -- the lesser of a minute and a closed end
 abbrev pub lesser : ℕ → End → ℕ

@@ -97,18 +97,20 @@ zone_tied z y = zone_by (by_place z y) z y refl
 from_none : (n : ℕ) → 0 + n ≡ n
 from_none n = omega arith
 
+-- what was added at a key, by a test of keys that tells the same as their order
+folded_at : {A K : Type 0} (cmp : K → K → Ordering) (total : IsTotalOrder cmp) (ties : (a b : K) → cmp a b ≡ Equal → a ≡ b) (same : K → K → Bool) → ((k j : K) → is_at (cmp k) j ≡ same j k) → (key : A → K) (amount : A → ℕ) (xs : List A) (k : K)
+    → sum_at cmp (fold (λ (s : List (K × ℕ)) (x : A). with_amount cmp s (key x) (amount x)) [] xs) k ≡ sum_where (λ (x : A). same (key x) k) amount xs
+folded_at {A} cmp total ties same tied key amount xs k =
+    sum_folded cmp total ties key amount xs [] k
+    ∙ from_none (sum_where (λ (x : A). is_at (cmp k) (key x)) amount xs)
+    ∙ sum_alike (λ (x : A). is_at (cmp k) (key x)) (λ (x : A). same (key x) k) amount xs (λ x. tied k (key x))
+
 -- what was added for a hazard, and for a zone
 
 pub hazard_folded : {A : Type 0} (key : A → Hazard) (amount : A → ℕ) (xs : List A) (h : Hazard)
     → sum_at by_hazard (fold (λ (s : List (Hazard × ℕ)) (x : A). with_amount by_hazard s (key x) (amount x)) [] xs) h ≡ sum_where (λ (x : A). same_hazard (key x) h) amount xs
-hazard_folded {A} key amount xs h =
-    sum_folded by_hazard by_hazard_total by_hazard_ties key amount xs [] h
-    ∙ from_none (sum_where (λ (x : A). is_at (by_hazard h) (key x)) amount xs)
-    ∙ sum_alike (λ (x : A). is_at (by_hazard h) (key x)) (λ (x : A). same_hazard (key x) h) amount xs (λ x. hazard_by (by_hazard h (key x)) h (key x) refl)
+hazard_folded key amount xs h = folded_at by_hazard by_hazard_total by_hazard_ties same_hazard hazard_tied key amount xs h
 
 pub zone_folded : {A : Type 0} (key : A → Place) (amount : A → ℕ) (xs : List A) (z : Place)
     → sum_at by_place (fold (λ (s : List (Place × ℕ)) (x : A). with_amount by_place s (key x) (amount x)) [] xs) z ≡ sum_where (λ (x : A). same_zone (key x) z) amount xs
-zone_folded {A} key amount xs z =
-    sum_folded by_place by_place_total by_place_ties key amount xs [] z
-    ∙ from_none (sum_where (λ (x : A). is_at (by_place z) (key x)) amount xs)
-    ∙ sum_alike (λ (x : A). is_at (by_place z) (key x)) (λ (x : A). same_zone (key x) z) amount xs (λ x. zone_by (by_place z (key x)) z (key x) refl)
+zone_folded key amount xs z = folded_at by_place by_place_total by_place_ties same_zone zone_tied key amount xs z

@@ -1,26 +1,28 @@
 -- A whole run, once its end was told.
-use Rattle.std.proofs.Common.{◌≡◌, ◌≢◌, ◌∙◌, ◌⊎◌, inl, inr, ℕ, ◌+◌, ◌≤◌, List, [], ◌++◌, length, map, refl, ap, sym, subst, append-nil, arith, Option, Some, Result, Ok, Err}
+use Rattle.std.proofs.Common.{◌≡◌, ◌≢◌, ◌∙◌, ◌⊎◌, inl, inr, ℕ, ◌+◌, ◌≤◌, List, [], ◌++◌, length, map, refl, ap, sym, append-nil, arith, Option, Some, Result, Ok, Err}
 use Rattle.desk_traits.specs.Faults.{Rose}
 use Rattle.byte_streams.specs.Flows.{Takes, Adds, Outflow, Streams}
 use Rattle.event_life.specs.Products.{Product}
 use Rattle.product_decoder.specs.Decoded.{decode}
 use Rattle.product_decoder.specs.Feeding.{products_in}
-use Rattle.program_ends.specs.Ends.{fault_line, Begins, Telling, IsCut}
+use Rattle.program_ends.specs.Ends.{fault_line, own_line, own_status, Begins, Telling}
 use Rattle.program_ends.specs.Runs.{end_of}
 use Rattle.program_ends.specs.Steps.{IsCauseOf}
 use Rattle.program_ends.specs.declared.ends.End.{End}
-use Rattle.program_ends.specs.declared.ends.End.TheVariants.{ReadFault, WriteFault, InputTooLong, OutOfMemory}
+use Rattle.program_ends.specs.declared.ends.End.TheVariants.{ReadFault, InputTooLong, OutOfMemory}
 use Rattle.program_ends.specs.declared.reading.Stop.{Stop}
 use Rattle.program_ends.specs.declared.reading.Stop.TheVariants as stop
 use Rattle.program_ends.proofs.Answering.{adds_none}
-use Rattle.program_ends.proofs.Finishing.{Tells, eight, has_written, no_other, told_by}
+use Rattle.program_ends.proofs.Finishing.{Tells, has_written, told_by}
 use Rattle.program_ends.proofs.Telling.{begins_self}
 use Rattle.archive_report.specs.declared.words.Asked.{Asked}
 use Rattle.archive_report.specs.Report.{products_of, faults_in}
+use Rattle.archive_report.specs.Words.{asked_of}
+use Rattle.archive_report.proofs.Ending.{was_read, was_long, was_memory, fault_status, seven_on, line_of, no_read_rose}
 use Rattle.archive_report.proofs.Fronts.{readings_told}
 use Rattle.stats_report.specs.Readings.{statistics, IsTallied, ReadsTo, WritesTo}
 use Rattle.stats_report.specs.Report.{stats_text}
-use Rattle.stats_report.specs.Runs.{IsStatsRun}
+use Rattle.stats_report.specs.Runs.{DoesAsAsked, IsStatsRun, WasTold}
 use Rattle.stats_report.specs.Tallies.{IsKept}
 use Rattle.stats_report.specs.declared.tally.Tally.{Tally}
 
@@ -124,95 +126,51 @@ module _ {T : Type 0} (asked : Asked) (limit : ℕ) (before after : Streams) whe
   }
 
 -- where nothing was to be written before it, the line of a fault stands alone
-front_nil : (text line written : List ℕ) → text ≡ [] → written ≡ text ++ line → written ≡ line
-front_nil text line written none is = is ∙ ap (λ (t : List ℕ). t ++ line) none
+front_nil : (text line : List ℕ) → text ≡ [] → text ++ line ≡ line
+front_nil text line none = ap (λ (t : List ℕ). t ++ line) none
 
-cut_nil : (writes writes' : ℕ) (text line written : List ℕ) → text ≡ [] → IsCut (text ++ line) written writes writes' → IsCut line written writes writes'
-cut_nil writes writes' text line written none cut = subst (λ (t : List ℕ). IsCut t written writes writes') (ap (λ (t : List ℕ). t ++ line) none) cut
+-- what a run that ended early was to write: all, or the line of its reason
+was_told : {T : Type 0} (asked : Asked) (limit reads reads' : ℕ) (left left' taken taken' : Option (List ℕ)) (why : Stop) (t : WritesTo {T = T} asked limit left left' taken taken' (Err why)) → IsCauseOf {T = T} stop.Read reads reads' (Err why)
+    → WasTold asked limit t.read left' reads reads' (t.text ++ own_line (Some (end_of why)))
+was_told asked limit reads reads' left left' taken taken' stop.Read t cause = inr (inl (front_nil t.text (fault_line ReadFault) (t.read_fault refl).1, cause.rose refl, (t.read_fault refl).0))
+was_told asked limit reads reads' left left' taken taken' stop.Write t cause = let all = t.write_fault refl in inl (append-nil t.text ∙ all.2, all.0, all.1, cause.steady (λ e. absurd (cc)))
+was_told asked limit reads reads' left left' taken taken' stop.TooLong t cause = inr (inr (inl (front_nil t.text (fault_line InputTooLong) (t.too_long refl).1, cause.steady (λ e. absurd (cc)), (t.too_long refl).0)))
+was_told asked limit reads reads' left left' taken taken' stop.OutOfMemory t cause = inr (inr (inr (front_nil t.text (fault_line OutOfMemory) (t.no_memory refl), cause.steady (λ e. absurd (cc)))))
 
-module _ {T : Type 0} (asked : Asked) (limit : ℕ) (before after : Streams) (mid : Outflow) (status : ℕ) where
-  -- a run that ended early, for each reason
-  read_failed : (t : WritesTo {T = T} asked limit before.input.left after.input.left before.output.taken mid.taken (Err stop.Read)) → Rose before.input.faults after.input.faults → Telling t.text before.output after.output (Some ReadFault) status → IsStatsRun asked limit before after status
-  read_failed t rose telling =
-      let own : status ≢ 8 → status ≡ 7 = λ no. (telling.told.others no).0 in
-      let few = (t.read_fault refl).0 in
-      let none = (t.read_fault refl).1 in
-      record {
-        read = t.read;
-        written = telling.written;
-        takes = t.takes;
-        adds = telling.adds;
-        within = t.within;
-        told = λ e. absurd (no_other status 7 0 own (λ q. omega (arith, q)) (λ q. omega (arith, q)) e);
-        read_fault = λ e. let told = telling.told.others (λ h. omega (arith, e, h)) in (rose, told.1, few, front_nil t.text (fault_line ReadFault) telling.written none told.2);
-        too_long = λ e. absurd (no_other status 7 13 own (λ q. omega (arith, q)) (λ q. omega (arith, q)) e);
-        no_memory = λ e. absurd (no_other status 7 12 own (λ q. omega (arith, q)) (λ q. omega (arith, q)) e);
-        write_fault = λ e. ((telling.told.cut e).0, (fault_line ReadFault, inr (inl (refl, rose, few)), cut_nil before.output.faults after.output.faults t.text (fault_line ReadFault) telling.written none (telling.told.cut e).1));
-        others = elim (eight status) [ inl h ↦ inr (inr (inl h)) | inr h ↦ inr (inl (own h)) ];
-      }
+-- a run that ended early
+module _ {T : Type 0} (asked : Asked) (limit : ℕ) (before after : Streams) (mid : Outflow) (status : ℕ) (why : Stop) (t : WritesTo {T = T} asked limit before.input.left after.input.left before.output.taken mid.taken (Err why)) (cause : IsCauseOf {T = T} stop.Read before.input.faults after.input.faults (Err why))
+    (telling : Telling t.text before.output after.output (Some (end_of why)) status) where
+  own : status ≢ 8 → status ≡ own_status (Some (end_of why))
+  own other = (telling.told.others other).0
 
-  too_long : (t : WritesTo {T = T} asked limit before.input.left after.input.left before.output.taken mid.taken (Err stop.TooLong)) → after.input.faults ≡ before.input.faults → Telling t.text before.output after.output (Some InputTooLong) status → IsStatsRun asked limit before after status
-  too_long t steady telling =
-      let own : status ≢ 8 → status ≡ 13 = λ no. (telling.told.others no).0 in
-      let full = (t.too_long refl).0 in
-      let none = (t.too_long refl).1 in
-      record {
-        read = t.read;
-        written = telling.written;
-        takes = t.takes;
-        adds = telling.adds;
-        within = t.within;
-        told = λ e. absurd (no_other status 13 0 own (λ q. omega (arith, q)) (λ q. omega (arith, q)) e);
-        read_fault = λ e. absurd (no_other status 13 7 own (λ q. omega (arith, q)) (λ q. omega (arith, q)) e);
-        too_long = λ e. let told = telling.told.others (λ h. omega (arith, e, h)) in ((steady, told.1), full, front_nil t.text (fault_line InputTooLong) telling.written none told.2);
-        no_memory = λ e. absurd (no_other status 13 12 own (λ q. omega (arith, q)) (λ q. omega (arith, q)) e);
-        write_fault = λ e. ((telling.told.cut e).0, (fault_line InputTooLong, inr (inr (inl (refl, steady, full))), cut_nil before.output.faults after.output.faults t.text (fault_line InputTooLong) telling.written none (telling.told.cut e).1));
-        others = elim (eight status) [ inl h ↦ inr (inr (inl h)) | inr h ↦ inr (inr (inr (inr (own h)))) ];
-      }
+  fault : (status ≡ 7) ⊎ (status ≡ 8) ⊎ (status ≡ 12) ⊎ (status ≡ 13)
+  fault = fault_status why status own
 
-  no_memory : (t : WritesTo {T = T} asked limit before.input.left after.input.left before.output.taken mid.taken (Err stop.OutOfMemory)) → after.input.faults ≡ before.input.faults → Telling t.text before.output after.output (Some OutOfMemory) status → IsStatsRun asked limit before after status
-  no_memory t steady telling =
-      let own : status ≢ 8 → status ≡ 12 = λ no. (telling.told.others no).0 in
-      let none = t.no_memory refl in
-      record {
-        read = t.read;
-        written = telling.written;
-        takes = t.takes;
-        adds = telling.adds;
-        within = t.within;
-        told = λ e. absurd (no_other status 12 0 own (λ q. omega (arith, q)) (λ q. omega (arith, q)) e);
-        read_fault = λ e. absurd (no_other status 12 7 own (λ q. omega (arith, q)) (λ q. omega (arith, q)) e);
-        too_long = λ e. absurd (no_other status 12 13 own (λ q. omega (arith, q)) (λ q. omega (arith, q)) e);
-        no_memory = λ e. let told = telling.told.others (λ h. omega (arith, e, h)) in ((steady, told.1), front_nil t.text (fault_line OutOfMemory) telling.written none told.2);
-        write_fault = λ e. ((telling.told.cut e).0, (fault_line OutOfMemory, inr (inr (inr (refl, steady))), cut_nil before.output.faults after.output.faults t.text (fault_line OutOfMemory) telling.written none (telling.told.cut e).1));
-        others = elim (eight status) [ inl h ↦ inr (inr (inl h)) | inr h ↦ inr (inr (inr (inl (own h)))) ];
-      }
-
-  write_failed : (t : WritesTo {T = T} asked limit before.input.left after.input.left before.output.taken mid.taken (Err stop.Write)) → after.input.faults ≡ before.input.faults → Telling t.text before.output after.output (Some WriteFault) status → IsStatsRun asked limit before after status
-  write_failed t steady telling =
-      let own : status ≢ 8 → status ≡ 8 = λ no. (telling.told.others no).0 in
-      let is : status ≡ 8 = elim (eight status) [ inl h ↦ h | inr h ↦ own h ] in
-      let all = t.write_fault refl in
-      record {
-        read = t.read;
-        written = telling.written;
-        takes = t.takes;
-        adds = telling.adds;
-        within = t.within;
-        told = λ e. absurd (omega (arith, e, is));
-        read_fault = λ e. absurd (omega (arith, e, is));
-        too_long = λ e. absurd (omega (arith, e, is));
-        no_memory = λ e. absurd (omega (arith, e, is));
-        write_fault = λ e. ((telling.told.cut e).0, (t.text, inl (all.2, all.0, all.1, steady), subst (λ (w : List ℕ). IsCut w telling.written before.output.faults after.output.faults) (append-nil t.text) (telling.told.cut e).1));
-        others = inr (inr (inl is));
-      }
-
-  pub run_halted : (why : Stop) (t : WritesTo {T = T} asked limit before.input.left after.input.left before.output.taken mid.taken (Err why)) → IsCauseOf {T = T} stop.Read before.input.faults after.input.faults (Err why) → Telling t.text before.output after.output (Some (end_of why)) status
-      → IsStatsRun asked limit before after status
-  run_halted stop.Read t cause telling = read_failed t (cause.rose refl) telling
-  run_halted stop.Write t cause telling = write_failed t (cause.steady (λ e. absurd (cc))) telling
-  run_halted stop.TooLong t cause telling = too_long t (cause.steady (λ e. absurd (cc))) telling
-  run_halted stop.OutOfMemory t cause telling = no_memory t (cause.steady (λ e. absurd (cc))) telling
+  pub run_halted : IsStatsRun asked limit before after status
+  run_halted = record {
+    read = t.read;
+    written = telling.written;
+    takes = t.takes;
+    adds = telling.adds;
+    within = t.within;
+    told = λ e. absurd (omega (arith, e, seven_on status fault));
+    read_fault = λ e.
+        let is = was_read why status own e in
+        let told = telling.told.others (λ h. omega (arith, e, h)) in
+        let few = t.read_fault (ap (λ (s : Stop). Err s) is) in
+        (cause.rose (ap (λ (s : Stop). Err s) is), told.1, few.0, line_of why stop.Read t.text telling.written is told.2 ∙ front_nil t.text (fault_line ReadFault) few.1);
+    too_long = λ e.
+        let is = was_long why status own e in
+        let told = telling.told.others (λ h. omega (arith, e, h)) in
+        let many = t.too_long (ap (λ (s : Stop). Err s) is) in
+        ((no_read_rose {T = T} why stop.TooLong before.input.faults after.input.faults cause is (λ e. absurd (cc)), told.1), many.0, line_of why stop.TooLong t.text telling.written is told.2 ∙ front_nil t.text (fault_line InputTooLong) many.1);
+    no_memory = λ e.
+        let is = was_memory why status own e in
+        let told = telling.told.others (λ h. omega (arith, e, h)) in
+        ((no_read_rose {T = T} why stop.OutOfMemory before.input.faults after.input.faults cause is (λ e. absurd (cc)), told.1), line_of why stop.OutOfMemory t.text telling.written is told.2 ∙ front_nil t.text (fault_line OutOfMemory) (t.no_memory (ap (λ (s : Stop). Err s) is)));
+    write_fault = λ e. ((telling.told.cut e).0, (t.text ++ own_line (Some (end_of why)), was_told {T = T} asked limit before.input.faults after.input.faults before.input.left after.input.left before.output.taken mid.taken why t cause, (telling.told.cut e).1));
+    others = inr fault;
+  }
 
 -- what the statuses of a run say by themselves
 
@@ -237,12 +195,21 @@ module _ (asked : Asked) (limit : ℕ) (before after : Streams) (status : ℕ) (
       some (inr (inr (inr (inl h)))) = inr (inl h)
       some (inr (inr (inr (inr h)))) = inr (inr h)
 
--- a run that halted, once its end was told
-pub run_ended : {T : Type 0} (asked : Asked) (limit : ℕ) (before after : Streams) (mid : Outflow) (status : ℕ) (why : Stop) (end : End) → WritesTo {T = T} asked limit before.input.left after.input.left before.output.taken mid.taken (Err why)
-    → IsCauseOf {T = T} stop.Read before.input.faults after.input.faults (Err why) → IsCauseOf {T = T} stop.Write before.output.faults mid.faults (Err why)
-    → end ≡ end_of why
-    → Tells mid after.output (Some end) status
-    → IsStatsRun asked limit before after status
-run_ended {T} asked limit before after mid status why end t read write is tells =
-    let has = has_written {T = T} (Err why) t.text t.written before.output mid t.adds t.begins t.whole write in
-    run_halted asked limit before after mid status why t read (told_by why end t.text t.written before.output mid after.output status has is tells)
+-- What the words asked for was done by a run that halted, once its end was told.
+module _ {T : Type 0} (words : List (List ℕ)) (asked : Asked) (limit : ℕ) (before after : Streams) (mid : Outflow) (status : ℕ) (why : Stop) (end : End) where
+  run_ended : WritesTo {T = T} asked limit before.input.left after.input.left before.output.taken mid.taken (Err why) → IsCauseOf {T = T} stop.Read before.input.faults after.input.faults (Err why) → IsCauseOf {T = T} stop.Write before.output.faults mid.faults (Err why) → end ≡ end_of why → Tells mid after.output (Some end) status
+      → IsStatsRun asked limit before after status
+  run_ended t read write is tells =
+      run_halted asked limit before after mid status why t read (told_by why end t.text t.written before.output mid after.output status (has_written {T = T} (Err why) t.text t.written before.output mid t.adds t.begins t.whole write) is tells)
+
+  pub does_ended : ◌≡◌ {A = Option Asked} (Some asked) (asked_of words) → WritesTo {T = T} asked limit before.input.left after.input.left before.output.taken mid.taken (Err why) → IsCauseOf {T = T} stop.Read before.input.faults after.input.faults (Err why) → IsCauseOf {T = T} stop.Write before.output.faults mid.faults (Err why) → end ≡ end_of why → Tells mid after.output (Some end) status
+      → DoesAsAsked words limit before after status
+  does_ended asked_is t read write is tells =
+      let run = run_ended t read write is tells in
+      record {
+        run = rw (sym asked_is) run;
+        usage = λ e. absurd (not_two asked limit before after status run e);
+        read_fault = λ e. (run.read_fault e).0;
+        write_fault = λ e. (run.write_fault e).0;
+        complete = λ _ no_read no_write. run_complete asked limit before after status run no_read no_write;
+      }

@@ -191,13 +191,25 @@ module _ (stamp from : ℕ) (products : List Product) (p : Product) (is : from �
   unfolding rows_after
   put_is = refl
 
+  -- the row at a line's spot is that of before the product, and so are its minutes
+  row_before : (done : List Line) (line : Line) (lines : List Line) (es : Spots) → all_lawful ≡ done ++ line ∷ lines → Moved (put_all before p.issue done before) es
+      → row_counted (counted_at es line) ≡ row_at before line.event line.zone
+  row_before done line lines es parts moved =
+      row_found es moved.spotted line.event line.zone ∙ ap (λ (rows : List Row). row_at rows line.event line.zone) moved.rows ∙ unmoved before p.issue spoken_lines done line lines parts
+
+  minutes_before : (done : List Line) (line : Line) (lines : List Line) (es : Spots) → all_lawful ≡ done ++ line ∷ lines → Moved (put_all before p.issue done before) es
+      → minutes_counted (counted_at es line) ≡ minutes_of stamp products line.event line.zone
+  minutes_before done line lines es parts moved =
+      let row = row_before done line lines es parts moved in
+      let own : IsOwn line (row_counted (counted_at es line)) = subst (IsOwn line) (sym row) (own_by line (row_at before line.event line.zone) refl) in
+      found_minutes line (counted_at es line) row own (of_found IsMoved (is_at (by_spot (spot_of_line line))) es moved.moved)
+
   step : (done : List Line) (line : Line) (lines : List Line) (es : Spots) → all_lawful ≡ done ++ line ∷ lines → Moved (put_all before p.issue done before) es
       → Moved (put_all before p.issue (done ++ line ∷ []) before) (changed stamp from p.issue es line)
   step done line lines es parts moved =
       let found : Option Counted = counted_at es line in
-      let row : row_counted found ≡ row_at before line.event line.zone = row_found es moved.spotted line.event line.zone ∙ ap (λ (rows : List Row). row_at rows line.event line.zone) moved.rows ∙ unmoved before p.issue spoken_lines done line lines parts in
-      let own : IsOwn line (row_counted found) = subst (IsOwn line) (sym row) (own_by line (row_at before line.event line.zone) refl) in
-      let minutes = found_minutes line found row own (of_found IsMoved (is_at (by_spot (spot_of_line line))) es moved.moved) in
+      let row = row_before done line lines es parts moved in
+      let minutes = minutes_before done line lines es parts moved in
       let left = ap (minutes_left stamp from) row in
       let within = left_within products p line.event line.zone from is stamp in
       let after = counted_after stamp from p.issue line found in
@@ -322,10 +334,8 @@ module _ (stamp from : ℕ) (products : List Product) (p : Product) (is : from �
 
   fits : (done : List Line) (line : Line) (lines : List Line) (es : Spots) → all_lawful ≡ done ++ line ∷ lines → Moved (put_all before p.issue done before) es → IsFit m es line
   fits done line lines es parts moved =
-      let found : Option Counted = counted_at es line in
-      let row : row_counted found ≡ row_at before line.event line.zone = row_found es moved.spotted line.event line.zone ∙ ap (λ (rows : List Row). row_at rows line.event line.zone) moved.rows ∙ unmoved before p.issue spoken_lines done line lines parts in
-      let own : IsOwn line (row_counted found) = subst (IsOwn line) (sym row) (own_by line (row_at before line.event line.zone) refl) in
-      let minutes = found_minutes line found row own (of_found IsMoved (is_at (by_spot (spot_of_line line))) es moved.moved) in
+      let row = row_before done line lines es parts moved in
+      let minutes = minutes_before done line lines es parts moved in
       let left = ap (minutes_left stamp from) row in
       let within = left_within products p line.event line.zone from is stamp in
       let lawful_line : IsLawful line = all_of_next IsLawful done line lines (subst (AllByRecursion IsLawful) parts (all_lawful_from [] spoken_lines)) in

@@ -4,18 +4,17 @@ ghost use Rattle.std.specs.Map.{keys_of};
 ghost use Rattle.hazard_types.specs.Orders.{by_hazard};
 ghost use Rattle.stats_report.specs.Adding.{sum_at, with_event};
 
-use crate::keys::HazardKey;
 use crate::standing::Spells;
 use crate::sums::checked_sum;
-use hazard_types::{Event, Oom};
+use hazard_types::{Event, Hazard, Oom};
 use std::alloc::Global;
 use std::collections::BTreeMap;
 
 /// The count of events of each hazard.
-pub type Events = BTreeMap<HazardKey, u128>;
+pub type Events = BTreeMap<Hazard, u128>;
 
 /// Returns the count of events of a hazard.
-pub fn events_of(events: &Events, hazard: &HazardKey) -> u128
+pub fn events_of(events: &Events, hazard: &Hazard) -> u128
     ensures { result ≡ sum_at by_hazard events.now.entries hazard.now }
 {
     match events.get(hazard) {
@@ -28,7 +27,7 @@ pub fn events_of(events: &Events, hazard: &HazardKey) -> u128
 fn add_event(events: &mut Events, event: &Event) -> Result<(), Oom>
     ensures { OnOk result (events.new.entries ≡ with_event events.old.entries event.now) }
 {
-    let hazard = HazardKey::of(&event.hazard);
+    let hazard = event.hazard;
     let count = checked_sum(events_of(events, &hazard), 1)?;
     events.insert(hazard, count)?;
     Ok(())

@@ -1,31 +1,17 @@
 //! Reads an input piece by piece and counts its products.
-ghost use Rattle.std.specs.Prelude.{◌≡◌, ◌≤◌, ◌<◌, ◌+◌, true, false, length, Ok, IfOk, OnOk};
-ghost use Rattle.product_decoder.specs.Decoded.{decode};
+ghost use Rattle.std.specs.Prelude.{◌≡◌, ◌≤◌, ◌<◌, ◌+◌, true, false, length, Ok, OnOk};
 ghost use Rattle.product_decoder.specs.Feeding.{GivesNone};
 ghost use Rattle.program_ends.specs.Lines.{most_bytes};
 ghost use Rattle.program_ends.specs.Steps.{IsCauseOf};
-ghost use Rattle.archive_report.specs.Readings.{said_of};
 ghost use Rattle.stats_report.specs.Readings.{IsFresh, TakesNext, TakesEach, ReadsTo};
 
-use crate::tally::{Reading, Tally};
-use archive_report::Asked;
+use crate::tally::Tally;
+use archive_report::{Asked, read_product};
 use byte_streams::Source;
-use hazard_types::{Oom, Or};
+use hazard_types::Oom;
 use product_decoder::Feed;
-use product_frame::read_frame;
 use program_ends::{Pieces, Stop};
 use std::alloc::Global;
-
-/// Reads a product: its frame, or its first fault.
-fn read_product(alloc: Global, bytes: &[u8]) -> Result<Reading, Oom>
-    ensures { IfOk result (λ reading. said_of reading ≡ decode bytes.now) }
-{
-    match read_frame(alloc, bytes) {
-        Ok(frame) => Ok(Ok(frame)),
-        Err(Or::No(fault)) => Ok(Err(fault)),
-        Err(Or::OutOfMemory) => Err(Oom),
-    }
-}
 
 /// Takes the next finished product of the feed into the tally. Returns whether there was one.
 fn take_next(alloc: Global, asked: &Asked, feed: &mut Feed, tally: &mut Tally) -> Result<bool, Oom>

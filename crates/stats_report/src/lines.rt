@@ -9,11 +9,10 @@ ghost use Rattle.stats_report.specs.Told.{hazard_told, zone_told};
 ghost use Rattle.stats_report.specs.Tallies.{IsKept};
 
 use crate::events::{Events, events_by_hazard, events_of};
-use crate::keys::HazardKey;
 use crate::standing::{Standing, hazard_sums, zone_sums};
 use crate::sums::Sums;
 use crate::tally::Tally;
-use hazard_types::{List, Oom, Text, Zone, hazard_text, zone_text};
+use hazard_types::{Hazard, List, Oom, Text, Zone, hazard_text, zone_text};
 use std::alloc::Global;
 
 /// Adds a word and a number.
@@ -31,14 +30,14 @@ fn put_hazard(
     out: &mut Text,
     events: &Events,
     standing: &Standing,
-    hazard: &HazardKey,
+    hazard: &Hazard,
 ) -> Result<(), Oom>
     ensures { OnOk result (out.new ≡ out.old
         ++ hazard_told events.now.entries (kept_of standing.now) hazard.now) }
 {
     let sums = hazard_sums(&standing.hazards, hazard);
     out.extend(b"hazard ")?;
-    out.extend(&hazard_text(&hazard.hazard))?;
+    out.extend(&hazard_text(hazard))?;
     put_named(alloc, out, b" events ", events_of(events, hazard))?;
     put_named(alloc, out, b" openings ", sums.openings)?;
     put_named(alloc, out, b" lead ", sums.lead)?;

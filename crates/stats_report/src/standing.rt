@@ -13,9 +13,8 @@ ghost use Rattle.stats_report.specs.Spells.{no_sums, sums_at, change_of, gain_ov
 ghost use Rattle.stats_report.specs.Spells.{turned_in, kept_of, turn_at, with_turn};
 ghost use Rattle.stats_report.specs.Summed.{TakesLawful, TakesLines};
 
-use crate::keys::HazardKey;
 use crate::sums::{Gain, Sums, gained, no_sums};
-use hazard_types::{Action, End, Event, Line, Minute, Oom, Zone};
+use hazard_types::{Action, End, Event, Hazard, Line, Minute, Oom, Zone};
 use row_index::{EventKey, Run, Verdict};
 use std::alloc::Global;
 use std::collections::BTreeMap;
@@ -61,7 +60,7 @@ pub struct Totals {
 pub struct Standing {
     pub spells: Spells,
     pub zones: ZoneMap<Sums>,
-    pub hazards: BTreeMap<HazardKey, Sums>,
+    pub hazards: BTreeMap<Hazard, Sums>,
     pub all: Sums,
 }
 
@@ -186,7 +185,7 @@ pub fn zone_sums(zones: &ZoneMap<Sums>, near: &mut usize, zone: &Zone) -> Sums
 }
 
 /// Returns the sums of a hazard.
-pub fn hazard_sums(hazards: &BTreeMap<HazardKey, Sums>, hazard: &HazardKey) -> Sums
+pub fn hazard_sums(hazards: &BTreeMap<Hazard, Sums>, hazard: &Hazard) -> Sums
     ensures { result ≡ sums_at by_hazard hazards.now.entries hazard.now }
 {
     match hazards.get(hazard) {
@@ -284,7 +283,7 @@ impl Standing {
         ensures { OnOk result (kept_of self.new ≡ with_turn (kept_of self.old) event.now
             (fold (turned_in change.now) (turn_at (kept_of self.old) event.now) places.now)) }
     {
-        let hazard = HazardKey::of(&event.hazard);
+        let hazard = event.hazard;
         let mut totals = Totals {
             own: hazard_sums(&self.hazards, &hazard),
             all: self.all,

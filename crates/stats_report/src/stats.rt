@@ -1,6 +1,5 @@
 //! Runs the statistics as the words of a command ask for them.
-ghost use Rattle.std.specs.Prelude.{◌≤◌};
-ghost use Rattle.byte_streams.specs.Flows.{streams};
+ghost use Rattle.std.specs.Prelude.{codes, ◌≤◌};
 ghost use Rattle.program_ends.specs.Lines.{most_bytes};
 ghost use Rattle.program_ends.specs.Steps.{IsCauseOf};
 ghost use Rattle.stats_report.specs.Readings.{WritesTo};
@@ -14,6 +13,7 @@ use byte_streams::{Sink, Source, write_whole};
 use desk_traits::Failed;
 use hazard_types::{List, Text};
 use program_ends::{End, Stop, end_at_once, end_run};
+use program_outside::Program;
 use std::alloc::Global;
 
 /// Reads an input of at most `limit` bytes to its end, and then writes its statistics.
@@ -41,27 +41,27 @@ fn write_stats<S: Source, K: Sink>(
     }
 }
 
-/// Does what the words `OFFICE CLASS STAMP` ask for, with an input of at most `limit` bytes, and
-/// returns the exit status.
+/// The program `warn_stats`. A run does what the words `OFFICE CLASS STAMP` ask for.
 ///
 /// Source: docs/STATISTICS.md, "Exit statuses".
-pub fn run_stats<S: Source, K: Sink>(
-    alloc: Global,
-    words: &List<Text>,
-    input: &mut S,
-    output: &mut K,
-    limit: usize,
-) -> u8
-    requires { limit ≤ most_bytes }
-    ensures { DoesAsAsked words.now limit
-        (streams (S.inflow input.old) (K.outflow output.old))
-        (streams (S.inflow input.new) (K.outflow output.new)) result }
-{
-    let Some(asked) = asked_of(words) else {
-        return end_at_once(output, End::Usage);
-    };
-    match write_stats(alloc, &asked, limit, input, output) {
-        Ok(()) => 0,
-        Err(stop) => end_run(output, Some(End::from(stop))),
+pub struct Statistics;
+
+impl<S: Source, K: Sink> Program<S, K> for Statistics {
+    ghost does = { DoesAsAsked };
+
+    ghost usage = { codes "warn_stats OFFICE CLASS STAMP\n" };
+
+    fn usage() -> &'static str {
+        "warn_stats OFFICE CLASS STAMP\n"
+    }
+
+    fn run(alloc: Global, words: &List<Text>, limit: usize, input: &mut S, output: &mut K) -> u8 {
+        let Some(asked) = asked_of(words) else {
+            return end_at_once(output, End::Usage);
+        };
+        match write_stats(alloc, &asked, limit, input, output) {
+            Ok(()) => 0,
+            Err(stop) => end_run(output, Some(End::from(stop))),
+        }
     }
 }

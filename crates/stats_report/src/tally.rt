@@ -5,16 +5,13 @@ ghost use Rattle.archive_report.specs.Readings.{said_of};
 ghost use Rattle.stats_report.specs.Tallies.{IsKept, Counts, CountsFault, TakesProduct, TakesReading};
 
 use crate::standing::{Moment, Standing};
-use archive_report::Asked;
+use archive_report::{Asked, Reading};
 use hazard_types::Oom;
 use product_decoder::judged_by_frame;
-use product_frame::{Frame, FrameFault};
+use product_frame::Frame;
 use row_index::RowIndex;
 use std::alloc::Global;
 use std::mem;
-
-/// A product that was read: its frame, or its first fault.
-pub type Reading = Result<Frame, FrameFault>;
 
 /// What was counted in the products so far. It keeps no product.
 #[derive(Drop)]

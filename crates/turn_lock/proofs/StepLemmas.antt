@@ -83,6 +83,18 @@ module _ {E : Type 0} where
   off_stands owner next serving log seat seen now (Serves n held) z k = k
   off_stands owner next serving log seat seen now (Learnt n) z k = absurd (omega arith)
 
+-- the value that is there, or another one
+abbrev value_or : {X : Type 0} → X → Option X → X
+value_or d None = d
+value_or d (Some x) = x
+
+value_is : {X : Type 0} (a b : X) → Some a ≡ Some b → a ≡ b
+value_is a b e = ap (value_or a) e
+
+-- a word that its type holds
+fits : (a : ℕ) → a < 2 ^ 64 → a % 2 ^ 64 ≡ a
+fits a h = omega arith
+
 module _ (T B E : Type 0) (base_of : T → B) (story_of : T → List E) where
   abbrev V : Type 0
   V = View B E
@@ -339,7 +351,7 @@ module _ (T B E : Type 0) (base_of : T → B) (story_of : T → List E) where
       let there : get_or words 0 0 ≡ top = get_or-set_other s.words 1 0 y 0 (λ e. omega arith) in
       let w : V = staged Idle v in
       let held_one : ticket_of v.stage ≡ 1 = ap ticket_of learnt in
-      let some_b : b ≡ r.base = base_is b r.base (sym is ∙ l.based) in (
+      let some_b : b ≡ r.base = value_is b r.base (sym is ∙ l.based) in (
         w,
         gives,
         tt,
@@ -350,16 +362,6 @@ module _ (T B E : Type 0) (base_of : T → B) (story_of : T → List E) where
             (λ _. (x, set_here s.homes 0 (some (Some x)) (omega arith), sym base ∙ some_b, story ∙ mine.3)),
         refl,
       )
-    where
-      fits : (a : ℕ) → a < 2 ^ 64 → a % 2 ^ 64 ≡ a
-      fits a h = omega arith
-
-      base_or : B → Option B → B
-      base_or d None = d
-      base_or d (Some z) = z
-
-      base_is : (a c : B) → Some a ≡ Some c → a ≡ c
-      base_is a c e = ap (base_or a) e
 
   -- an entry of one's own stands in the list
   under : (s : S) (r : Rule s) (j : ℕ) (u : V) → get_elem? s.views j ≡ some u → (i p : ℕ) → get_elem? u.mine i ≡ some p → p < length r.log
@@ -466,13 +468,6 @@ module _ (T B E : Type 0) (base_of : T → B) (story_of : T → List E) where
         },
         (λ x' more' got. let is' : Some x ≡ Some x' = taken_out (Some x) (Some x') [] more' got in λ i. (grown (story_of (value_or x (is' i))) v, (0, Some x) ∷ [])),
       )
-    where
-      fits : (a : ℕ) → a < 2 ^ 64 → a % 2 ^ 64 ≡ a
-      fits a h = omega arith
-
-      value_or : T → Option T → T
-      value_or d None = d
-      value_or d (Some z) = z
 
   pub splits : (id : ℕ) (v : V) (b : B) → v.base ≡ Some b → 2 ≤ v.shares → Splits Rule id v (cut v) (given v)
   splits id v b is two s r at =
@@ -639,7 +634,7 @@ module _ (T B E : Type 0) (base_of : T → B) (story_of : T → List E) where
         there.0,
         there.1,
         record {
-          same_base = there.2 ∙ base_is r.base (base_in v.base at_base) (sym l.based ∙ has_base v.base at_base);
+          same_base = there.2 ∙ value_is r.base (base_in v.base at_base) (sym l.based ∙ has_base v.base at_base);
           begins = subst (IsPrefix v.seen) (sym there.3) l.prefix;
           holds = λ k d less. let t = own k d less in let low = t.2 in let high = t.3 in (omega arith, omega arith);
           once = λ i j d less high one.
@@ -655,13 +650,6 @@ module _ (T B E : Type 0) (base_of : T → B) (story_of : T → List E) where
               omega arith);
         },
       )
-    where
-      base_or : B → Option B → B
-      base_or d None = d
-      base_or d (Some z) = z
-
-      base_is : (a c : B) → Some a ≡ Some c → a ≡ c
-      base_is a c e = ap (base_or a) e
 
   -- the value that a closed table gives out
   pub gives_out : (ws : List ℕ) (xs : List (Option T)) (y : Option T) (id : ℕ) (v : V) → Final (Seen Rule id v) ws xs → get_elem? xs 0 ≡ some y → v.stage ≡ Idle → v.shares ≡ 1024 → (lock : LockName) (at_base : IsSome v.base) → (x : T) × (y ≡ Some x) × Closes (pass_of lock v at_base) (base_of x) (story_of x)
@@ -675,10 +663,6 @@ module _ (T B E : Type 0) (base_of : T → B) (story_of : T → List E) where
       let t = gives_out ws xs y id v final got idle all lock at_base in
       let same_value : t.0 ≡ z = ap (value_or z) (sym t.1 ∙ found) in
       subst (λ (x : T). Closes (pass_of lock v at_base) (base_of x) (story_of x)) same_value t.2
-    where
-      value_or : T → Option T → T
-      value_or d None = d
-      value_or d (Some x) = x
 
   pub settles_all : (slots id i : ℕ) (m : Me (Option T) V) (b : B) → m.0.base ≡ Some b → Allows Rule slots id m i (λ k. k) (settles {T = T} (step slots i 0 0 none) m)
   settles_all slots id i m b is s r _ at _ = (m.0, keeps, tt, same s i id m.1 m.0 at r, (refl, (λ a b p x y. sym (r.theirs id m.0 at a p x).1 ∙ (r.theirs id m.0 at b p y).1), (live s r id m.0 b at is).met))

@@ -23,7 +23,8 @@ pub record Walked (bytes : List ℕ) (before : Option Place) (zones : List Place
 eqb_no : (a b : ℕ) → a ≢ b → (a == b) ≡ false
 eqb_no a b ne = elim (eqb_tells a b) [ inl h ↦ absurd (ne h.1) | inr h ↦ h.0 ]
 
-group_more : (s : List ℕ) (start at : ℕ) → start ≤ at → at < length s → slice_range s start (at + 1) ≡ slice_range s start at ++ get_or s at 0 ∷ []
+-- one byte more of a range
+pub group_more : (s : List ℕ) (start at : ℕ) → start ≤ at → at < length s → slice_range s start (at + 1) ≡ slice_range s start at ++ get_or s at 0 ∷ []
 group_more s start at le lt =
     let e : at + 1 - start ≡ (at - start) + 1 = omega arith in
     let inside : at - start < length (drop start s) = omega (arith, length-drop start s) in

@@ -60,9 +60,10 @@ single_is p is = let h = and_parts (are_letters p.state) (is_number p.number) is
 first_is : (s : Span) → IsSpan s → IsPlace s.first
 first_is s is = (and_from _ _ is.letters is.first, is.state)
 
-spans_append : (xs ys : List Span) → AllByRecursion IsSpan xs → AllByRecursion IsSpan ys → AllByRecursion IsSpan (xs ++ ys)
-spans_append [] ys p q = q
-spans_append (x ∷ xs) ys p q = (p.0, spans_append xs ys p.1 q)
+-- what holds of each element of two lists holds of each of both
+pub all_both : {X : Type 0} (P : X → Type 0) (xs ys : List X) → AllByRecursion P xs → AllByRecursion P ys → AllByRecursion P (xs ++ ys)
+all_both P [] ys p q = q
+all_both P (x ∷ xs) ys p q = (p.0, all_both P xs ys p.1 q)
 
 second_is : (s : Span) → IsSpan s → s.last ≡ s.first.number + 1 → IsPlace (numbered s.first (s.first.number + 1))
 second_is s is e = let last : s.last ≤ 999 = is.last in (and_from _ _ is.letters (number_is (s.first.number + 1) (omega arith) (omega arith)), is.state)
@@ -82,7 +83,7 @@ groups_are : (s : Span) (ps : List Place) → IsSpan s → ArePlaces ps → AllB
 groups_are s [] is places = pieces_are s is
 groups_are s (p ∷ ps) is places = elim (cases_Bool (goes_on s p)) [
   | inl e ↦ let h = and_parts (are_alike s.first p) (p.number == s.last + 1) e in rw e (groups_are _ ps (longer_is s p is places.0 (eqb-true _ _ h.1)) places.1)
-  | inr e ↦ rw e (spans_append (pieces s) (groups_from (single p) ps) (pieces_are s is) (groups_are (single p) ps (single_is p places.0) places.1))
+  | inr e ↦ rw e (all_both IsSpan (pieces s) (groups_from (single p) ps) (pieces_are s is) (groups_are (single p) ps (single_is p places.0) places.1))
 ]
 
 -- ---- the zones of the groups

@@ -13,22 +13,14 @@ use Rattle.hazard_types.specs.Codes.{value_for_code}
 use Rattle.hazard_types.specs.Tables.{class_rows, action_rows, sig_rows}
 use Rattle.hazard_types.specs.Letters.{class_code, action_code, sig_code}
 
--- what stands before, between and behind the columns
-pub record AreSeparated (bytes : List ℕ) : Type 0 where
-  pub before_class : slice_range bytes 0 1 ≡ codes "/"
-  pub before_action : slice_range bytes 2 3 ≡ codes "."
-  pub before_office : slice_range bytes 6 7 ≡ codes "."
-  pub before_phenomenon : slice_range bytes 11 12 ≡ codes "."
-  pub before_significance : slice_range bytes 14 15 ≡ codes "."
-  pub before_number : slice_range bytes 16 17 ≡ codes "."
-  pub before_begin : slice_range bytes 21 22 ≡ codes "."
-  pub before_end : slice_range bytes 34 35 ≡ codes "-"
-  pub behind : slice_range bytes 47 48 ≡ codes "/"
+-- the bytes before, between and behind the columns
+abbrev pub separators : List ℕ → List ℕ
+separators b = slice_index b 0 ∷ slice_index b 2 ∷ slice_index b 6 ∷ slice_index b 11 ∷ slice_index b 14 ∷ slice_index b 16 ∷ slice_index b 21 ∷ slice_index b 34 ∷ slice_index b 47 ∷ []
 
 -- each column of the 48 bytes has what the values say; class, action and significance are those that stand beside its letters in their tables
 pub record IsVtec (bytes : List ℕ) (v : Vtec) : Type 0 where
   pub size : length bytes ≡ 48
-  pub separated : AreSeparated bytes
+  pub separated : separators bytes ≡ codes "/......-/"
   pub class : value_for_code class_rows (slice_range bytes 1 2) ≡ Some v.class
   pub action : value_for_code action_rows (slice_range bytes 3 6) ≡ Some v.action
   pub office : slice_range bytes 7 11 ≡ v.office
@@ -47,10 +39,6 @@ vtec_text v = codes "/" ++ (class_code v.class ++ (codes "." ++ (action_code v.a
     ++ (sig_code v.hazard.sig ++ (codes "." ++ (four_digits v.etn ++ (codes "." ++ (time_text v.begin ++ (codes "-" ++ (time_text v.end ++ codes "/")))))))))))))))
 
 -- ---- the values of a text as a function
-
--- the bytes before, between and behind the columns
-abbrev pub separators : List ℕ → List ℕ
-separators b = slice_index b 0 ∷ slice_index b 2 ∷ slice_index b 6 ∷ slice_index b 11 ∷ slice_index b 14 ∷ slice_index b 16 ∷ slice_index b 21 ∷ slice_index b 34 ∷ slice_index b 47 ∷ []
 
 -- the length and the separators
 unfoldable pub has_columns : List ℕ → Bool

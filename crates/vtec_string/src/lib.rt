@@ -7,5 +7,5 @@ mod columns;
 mod read;
 mod write;
 
-pub use read::read_vtec;
+pub use read::{read_vtec, vtec_values};
 pub use write::vtec_text;

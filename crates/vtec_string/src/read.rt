@@ -64,7 +64,7 @@ fn has_columns(bytes: &[u8]) -> bool
 }
 
 /// Returns the values of all columns, or `None` if one of them is missing.
-fn values(
+pub fn vtec_values(
     class: Option<Class>,
     action: Option<Action>,
     office: Option<[u8; 4]>,
@@ -97,7 +97,7 @@ fn values_of(bytes: &[u8]) -> Option<Vtec>
     if !has_columns(bytes) {
         return None;
     }
-    values(
+    vtec_values(
         Class::from_code(&bytes[CLASS..CLASS + 1]),
         Action::from_code(&bytes[ACTION]),
         office_of(&bytes[OFFICE]),

@@ -3,30 +3,26 @@ use Rattle.std.proofs.Common.{◌≡◌, ◌∙◌, ℕ, ◌<◌, ◌≤◌, ◌
 use Rattle.std.specs.Prelude.{slice_index}
 use Rattle.std.proofs.lemmas.Bool.{cases_Bool, leb-true, le-leb, eqb-true, lt-ltb}
 use Rattle.std.proofs.lemmas.Option.{same_Some, cond_some}
+use Rattle.hazard_types.proofs.CodesBack.{class_letters, action_letters, sig_letters, severity_letters, status_letters, class_found, action_found, sig_found, severity_found, status_found, class_one, severity_one, only_byte}
 use Rattle.hazard_types.proofs.Years.{days_fit}
 use Rattle.hazard_types.specs.Calendar.{IsCivil, minute_of}
 use Rattle.hazard_types.specs.declared.calendar.Civil.{Civil}
-use Rattle.hazard_types.specs.Characters.{is_office, is_location}
+use Rattle.hazard_types.specs.Characters.{is_office, is_location, location_at}
 use Rattle.hazard_types.specs.Codes.{value_for_code}
 use Rattle.hazard_types.specs.Letters.{class_code, action_code, severity_code, status_code}
 use Rattle.hazard_types.specs.Orders.{sig_letter}
 use Rattle.hazard_types.specs.Tables.{class_rows, severity_rows}
 use Rattle.hazard_types.specs.Times.{IsTime}
-use Rattle.hazard_types.specs.declared.codes.Action.{Action}
 use Rattle.hazard_types.specs.declared.codes.Class.{Class}
-use Rattle.hazard_types.specs.declared.codes.Class.TheVariants as class
 use Rattle.hazard_types.specs.declared.codes.Severity.{Severity}
-use Rattle.hazard_types.specs.declared.codes.Severity.TheVariants as severity
-use Rattle.hazard_types.specs.declared.codes.Status.{Status}
-use Rattle.hazard_types.specs.declared.hazard.Sig.{Sig}
 use Rattle.hazard_types.specs.declared.line.Flood.{Flood}
 use Rattle.hazard_types.specs.declared.line.Vtec.{Vtec}
-use Rattle.hvtec_string.specs.Columns.{IsHvtec}
-use Rattle.hvtec_string.proofs.Lettering.{severity_letters, status_letters, status_found}
-use Rattle.vtec_string.specs.Columns.{IsVtec}
-use Rattle.vtec_string.proofs.Lettering.{class_letters, action_letters, sig_letters, action_found, sig_found}
+use Rattle.hvtec_string.specs.Columns.{IsHvtec, cause_at, values as flood_values}
+use Rattle.hvtec_string.proofs.Laying.{values_back as flood_parts}
+use Rattle.vtec_string.specs.Columns.{IsVtec, office_at, phenomenon_at, values as vtec_values}
+use Rattle.vtec_string.proofs.Laying.{values_back as vtec_parts}
 use Rattle.warn_codes_c.specs.Fields.{time_number, vtec_fields, flood_fields}
-use Rattle.warn_codes_c.specs.Writing.{time_of, office_at, letters_at, number_at, vtec_by, vtec_of, location_at, flood_by, flood_of}
+use Rattle.warn_codes_c.specs.Writing.{time_of, number_at, vtec_of, flood_of}
 use Rattle.warn_codes_c.specs.declared.fields.FloodFields.{FloodFields}
 use Rattle.warn_codes_c.specs.declared.fields.VtecFields.{VtecFields}
 
@@ -55,58 +51,22 @@ time_back n t h = elim (cases_Bool (n == 4294967295)) [
   | inr e ↦ let found = cond_some _ _ _ (rw e at h) in ap time_number (sym found.1)
 ]
 
+-- ---- texts
+
+-- the text that was written is the only one of the values that were found
+pub only_text : {V : Type 0} (Is : List ℕ → V → Type 0) (text bytes : List ℕ) (v w : V) → ((b : List ℕ) → Is b v → b ≡ text) → Some v ≡ Some w → Is bytes w → Some text ≡ Some bytes
+only_text Is text bytes v w only same is = ap (λ b. Some b) (sym (only bytes (subst (Is bytes) (sym (same_Some _ _ same)) is)))
+
 -- ---- P-VTEC
 
 class_hit : (c : Class) → value_for_code class_rows (slice_index (class_code c) 0 ∷ []) ≡ Some c
-unfolding class_rows
-class_hit class.O = refl
-class_hit class.T = refl
-class_hit class.E = refl
-class_hit class.X = refl
-
-record Parts (c : Option Class) (a : Option Action) (o p : Option (List ℕ)) (s : Option Sig) (n : Option ℕ) (b e : Option (Option ℕ)) (v : Vtec) : Type 0 where
-  class : c ≡ Some v.class
-  action : a ≡ Some v.action
-  office : o ≡ Some v.office
-  phen : p ≡ Some v.hazard.phen
-  sig : s ≡ Some v.hazard.sig
-  etn : n ≡ Some v.etn
-  begin : b ≡ Some v.begin
-  end : e ≡ Some v.end
-
-same_vtec : (v w : Vtec) → ◌≡◌ {A = Option Vtec} (Some v) (Some w) → v ≡ w
-same_vtec v w e = cc e
-
-no_vtec : (v : Vtec) → ◌≡◌ {A = Option Vtec} None (Some v) → ⊥
-no_vtec v e = cc e
-
-parts_of : (c : Option Class) (a : Option Action) (o p : Option (List ℕ)) (s : Option Sig) (n : Option ℕ) (b e : Option (Option ℕ)) (v : Vtec) → vtec_by c a o p s n b e ≡ Some v → Parts c a o p s n b e v
-parts_of None a o p s n b e v h = absurd (no_vtec v h)
-parts_of (Some c) None o p s n b e v h = absurd (no_vtec v h)
-parts_of (Some c) (Some a) None p s n b e v h = absurd (no_vtec v h)
-parts_of (Some c) (Some a) (Some o) None s n b e v h = absurd (no_vtec v h)
-parts_of (Some c) (Some a) (Some o) (Some p) None n b e v h = absurd (no_vtec v h)
-parts_of (Some c) (Some a) (Some o) (Some p) (Some s) None b e v h = absurd (no_vtec v h)
-parts_of (Some c) (Some a) (Some o) (Some p) (Some s) (Some n) None e v h = absurd (no_vtec v h)
-parts_of (Some c) (Some a) (Some o) (Some p) (Some s) (Some n) (Some b) None v h = absurd (no_vtec v h)
-parts_of (Some c) (Some a) (Some o) (Some p) (Some s) (Some n) (Some b) (Some e) v h =
-    let is = same_vtec _ v h in
-    record {
-      class = ap (λ (x : Vtec). Some x.class) is;
-      action = ap (λ (x : Vtec). Some x.action) is;
-      office = ap (λ (x : Vtec). Some x.office) is;
-      phen = ap (λ (x : Vtec). Some x.hazard.phen) is;
-      sig = ap (λ (x : Vtec). Some x.hazard.sig) is;
-      etn = ap (λ (x : Vtec). Some x.etn) is;
-      begin = ap (λ (x : Vtec). Some x.begin) is;
-      end = ap (λ (x : Vtec). Some x.end) is;
-    }
+class_hit c = ap (value_for_code class_rows) (only_byte (class_code c) (class_one c)) ∙ class_found c
 
 -- the values that fields have, have these fields
 pub vtec_back : (f : VtecFields) (v : Vtec) → vtec_of f ≡ Some v → vtec_fields v ≡ f
 unfolding vtec_of
 vtec_back f v h =
-    let p = parts_of _ _ _ _ _ _ _ _ v h in
+    let p = vtec_parts _ _ _ _ _ _ _ _ v h in
     let class : slice_index (class_code v.class) 0 ≡ f.class = ap (λ (t : List ℕ). slice_index t 0) (sym (class_letters (f.class ∷ []) v.class p.class)) in
     let action : action_code v.action ≡ f.action = sym (action_letters f.action v.action p.action) in
     let sig : sig_letter v.hazard.sig ≡ f.significance = ap (λ (t : List ℕ). slice_index t 0) (sym (sig_letters (f.significance ∷ []) v.hazard.sig p.sig)) in
@@ -122,15 +82,15 @@ pub vtec_hit : (bytes : List ℕ) (v : Vtec) (f : VtecFields) → IsVtec bytes v
 unfolding vtec_of
 vtec_hit bytes v f is e =
     let office : office_at v.office ≡ Some v.office = rw is.is_office refl in
-    let phen : letters_at v.hazard.phen ≡ Some v.hazard.phen = rw is.are_letters refl in
+    let phen : phenomenon_at v.hazard.phen ≡ Some v.hazard.phen = rw is.are_letters refl in
     let etn : number_at v.etn ≡ Some v.etn = rw (le-leb v.etn 9999 is.is_number) refl in
-    ap vtec_of (sym e) ∙ (λ i. vtec_by (class_hit v.class i) (action_found v.action i) (office i) (phen i) (sig_found v.hazard.sig i) (etn i) (time_hit _ v.begin is.begin i) (time_hit _ v.end is.end i))
+    ap vtec_of (sym e) ∙ (λ i. vtec_values (class_hit v.class i) (action_found v.action i) (office i) (phen i) (sig_found v.hazard.sig i) (etn i) (time_hit _ v.begin is.begin i) (time_hit _ v.end is.end i))
 
 -- they may be written
 pub vtec_may : (f : VtecFields) (v : Vtec) → vtec_of f ≡ Some v → IsTrue (is_office v.office) × (v.etn ≤ 9999)
 unfolding vtec_of
 vtec_may f v h =
-    let p = parts_of _ _ _ _ _ _ _ _ v h in
+    let p = vtec_parts _ _ _ _ _ _ _ _ v h in
     let office = cond_some _ _ _ p.office in
     let etn = cond_some _ _ _ p.etn in
     (subst (λ (t : List ℕ). IsTrue (is_office t)) office.1 office.0, subst (λ (n : ℕ). n ≤ 9999) etn.1 (leb-true _ _ etn.0))
@@ -138,48 +98,7 @@ vtec_may f v h =
 -- ---- H-VTEC
 
 severity_hit : (s : Severity) → value_for_code severity_rows (slice_index (severity_code s) 0 ∷ []) ≡ Some s
-unfolding severity_rows
-severity_hit severity.N = refl
-severity_hit severity.Zero = refl
-severity_hit severity.One = refl
-severity_hit severity.Two = refl
-severity_hit severity.Three = refl
-severity_hit severity.U = refl
-
-record FloodParts (l : Option (List ℕ)) (s : Option Severity) (c : Option (List ℕ)) (b t e : Option (Option ℕ)) (f : Option Status) (h : Flood) : Type 0 where
-  site : l ≡ Some h.site
-  severity : s ≡ Some h.severity
-  cause : c ≡ Some h.cause
-  begin : b ≡ Some h.begin
-  crest : t ≡ Some h.crest
-  end : e ≡ Some h.end
-  status : f ≡ Some h.status
-
-same_flood : (v w : Flood) → ◌≡◌ {A = Option Flood} (Some v) (Some w) → v ≡ w
-same_flood v w e = cc e
-
-no_flood : (v : Flood) → ◌≡◌ {A = Option Flood} None (Some v) → ⊥
-no_flood v e = cc e
-
-flood_parts : (l : Option (List ℕ)) (s : Option Severity) (c : Option (List ℕ)) (b t e : Option (Option ℕ)) (f : Option Status) (h : Flood) → flood_by l s c b t e f ≡ Some h → FloodParts l s c b t e f h
-flood_parts None s c b t e f h is = absurd (no_flood h is)
-flood_parts (Some l) None c b t e f h is = absurd (no_flood h is)
-flood_parts (Some l) (Some s) None b t e f h is = absurd (no_flood h is)
-flood_parts (Some l) (Some s) (Some c) None t e f h is = absurd (no_flood h is)
-flood_parts (Some l) (Some s) (Some c) (Some b) None e f h is = absurd (no_flood h is)
-flood_parts (Some l) (Some s) (Some c) (Some b) (Some t) None f h is = absurd (no_flood h is)
-flood_parts (Some l) (Some s) (Some c) (Some b) (Some t) (Some e) None h is = absurd (no_flood h is)
-flood_parts (Some l) (Some s) (Some c) (Some b) (Some t) (Some e) (Some f) h is =
-    let one = same_flood _ h is in
-    record {
-      site = ap (λ (x : Flood). Some x.site) one;
-      severity = ap (λ (x : Flood). Some x.severity) one;
-      cause = ap (λ (x : Flood). Some x.cause) one;
-      begin = ap (λ (x : Flood). Some x.begin) one;
-      crest = ap (λ (x : Flood). Some x.crest) one;
-      end = ap (λ (x : Flood). Some x.end) one;
-      status = ap (λ (x : Flood). Some x.status) one;
-    }
+severity_hit s = ap (value_for_code severity_rows) (only_byte (severity_code s) (severity_one s)) ∙ severity_found s
 
 pub flood_back : (f : FloodFields) (h : Flood) → flood_of f ≡ Some h → flood_fields h ≡ f
 unfolding flood_of
@@ -187,7 +106,7 @@ flood_back f h is =
     let p = flood_parts _ _ _ _ _ _ _ h is in
     let severity : slice_index (severity_code h.severity) 0 ≡ f.severity = ap (λ (t : List ℕ). slice_index t 0) (sym (severity_letters (f.severity ∷ []) h.severity p.severity)) in
     let status : status_code h.status ≡ f.record_status = sym (status_letters f.record_status h.status p.status) in
-    let site : h.site ≡ f.location = sym (cond_some _ _ _ p.site).1 in
+    let site : h.site ≡ f.location = sym (cond_some _ _ _ p.location).1 in
     let cause : h.cause ≡ f.cause = sym (cond_some _ _ _ p.cause).1 in
     let begin = time_back f.begin h.begin p.begin in
     let crest = time_back f.crest h.crest p.crest in
@@ -198,11 +117,11 @@ pub flood_hit : (bytes : List ℕ) (h : Flood) (f : FloodFields) → IsHvtec byt
 unfolding flood_of
 flood_hit bytes h f is e =
     let site : location_at h.site ≡ Some h.site = rw is.is_location refl in
-    let cause : letters_at h.cause ≡ Some h.cause = rw is.are_letters refl in
-    ap flood_of (sym e) ∙ (λ i. flood_by (site i) (severity_hit h.severity i) (cause i) (time_hit _ h.begin is.begin i) (time_hit _ h.crest is.crest i) (time_hit _ h.end is.end i) (status_found h.status i))
+    let cause : cause_at h.cause ≡ Some h.cause = rw is.are_letters refl in
+    ap flood_of (sym e) ∙ (λ i. flood_values (site i) (severity_hit h.severity i) (cause i) (time_hit _ h.begin is.begin i) (time_hit _ h.crest is.crest i) (time_hit _ h.end is.end i) (status_found h.status i))
 
 pub flood_may : (f : FloodFields) (h : Flood) → flood_of f ≡ Some h → IsTrue (is_location h.site)
 unfolding flood_of
 flood_may f h is =
-    let site = cond_some _ _ _ (flood_parts _ _ _ _ _ _ _ h is).site in
+    let site = cond_some _ _ _ (flood_parts _ _ _ _ _ _ _ h is).location in
     subst (λ (t : List ℕ). IsTrue (is_location t)) site.1 site.0

@@ -63,11 +63,8 @@ pub nothing_left : (a : Archive) (feed : Fed) → GivesNone a.feed feed → a.fe
 nothing_left a feed none h = (none.1 h).1
 
 pub smaller : (more' more : Bool) (n m : ℕ) → more ≡ true → (more' ≡ true → n < m) → cond more' (n + 1) 0 < cond more (m + 1) 0
-smaller more' true n m e some = by_case more' some
-  where
-    by_case : (b : Bool) → (b ≡ true → n < m) → cond b (n + 1) 0 < m + 1
-    by_case true less = let lt : n < m = less refl in omega (arith, lt)
-    by_case false less = omega arith
+smaller true true n m e some = let less : n < m = some refl in omega (arith, less)
+smaller false true n m e some = omega arith
 smaller more' false n m e some = absurd (cc)
 
 -- a piece was put behind what is left, and the products that it finished were taken
@@ -110,15 +107,7 @@ ended a c feed same_rest at_end same last = record {
 
 -- and another stream begins
 pub finished : (a c : Archive) (feed : Fed) → Ended a c → feed.rest ≡ [] → feed.ended ≡ false → Finished a (record c { feed = feed })
-finished a c feed at_end none going = record {
-  office = at_end.office;
-  class = at_end.class;
-  going = going;
-  rest = none;
-  products = at_end.products;
-  numbers = at_end.numbers;
-  count = at_end.count;
-}
+finished a c feed at_end none going = record { office = at_end.office; class = at_end.class; going = going; rest = none; products = at_end.products; numbers = at_end.numbers; count = at_end.count }
 
 module _ (a b c : Archive) (stream : List ℕ) (pushed : Pushed a stream b) (ended : Ended b c) (rest : a.feed.rest ≡ []) where
   pub whole_products : a.reader.products ≡ [] → c.reader.products ≡ products_of a.reader.office a.reader.class (readings_of stream)

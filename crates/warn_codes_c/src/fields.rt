@@ -65,13 +65,12 @@ pub fn time_number(time: &Option<Minute>) -> u32
 pub fn vtec_fields(v: &Vtec) -> VtecFields
     ensures { result ≡ vtec_fields v.now }
 {
-    let office = v.office;
     VtecFields {
         begin: time_number(&v.begin),
         end: time_number(&v.end),
         number: v.etn,
         phenomenon: v.hazard.phen.letters(),
-        office,
+        office: v.office,
         action: v.action.code(),
         class: v.class.letter(),
         significance: v.hazard.sig.letter(),
@@ -82,12 +81,11 @@ pub fn vtec_fields(v: &Vtec) -> VtecFields
 pub fn flood_fields(h: &Flood) -> FloodFields
     ensures { result ≡ flood_fields h.now }
 {
-    let location = h.site;
     FloodFields {
         begin: time_number(&h.begin),
         crest: time_number(&h.crest),
         end: time_number(&h.end),
-        location,
+        location: h.site,
         severity: h.severity.letter(),
         cause: h.cause.letters(),
         record_status: h.status.code(),

@@ -19,20 +19,14 @@ pub struct SpanFields {
     pub to: usize,
 }
 
-fn span_fields(span: &Span) -> SpanFields
-    ensures { result ≡ span_fields span.now }
-{
-    SpanFields {
-        from: span.from,
-        to: span.to,
-    }
-}
-
 fn put_spans(rows: &mut List<SpanFields>, spans: &[Span]) -> Result<(), Oom>
     ensures { OnOk result (rows.new ≡ rows.old ++ map span_fields spans.now) }
 {
     for span in spans {
-        rows.push(span_fields(span))?;
+        rows.push(SpanFields {
+            from: span.from,
+            to: span.to,
+        })?;
     }
     Ok(())
 }

@@ -1,20 +1,21 @@
 //! Writes P-VTEC and H-VTEC texts.
 ghost use Rattle.std.specs.Prelude.{◌≡◌, ◌⊎◌, Some, IfSome, List as Seq, ℕ};
+ghost use Rattle.hazard_types.specs.Characters.{location_at};
 ghost use Rattle.hazard_types.specs.declared.line.Flood.{Flood as FloodValues};
 ghost use Rattle.hazard_types.specs.declared.line.Vtec.{Vtec as Values};
 ghost use Rattle.hvtec_string.specs.Columns.{IsHvtec};
-ghost use Rattle.vtec_string.specs.Columns.{IsVtec};
+ghost use Rattle.vtec_string.specs.Columns.{IsVtec, office_at};
 ghost use Rattle.warn_codes_c.specs.Fields.{vtec_fields, flood_fields};
-ghost use Rattle.warn_codes_c.specs.Writing.{vtec_of, vtec_by, flood_of, flood_by, office_at, location_at, number_at, time_of};
+ghost use Rattle.warn_codes_c.specs.Writing.{vtec_of, flood_of, number_at, time_of};
 
 use crate::fields::{FloodFields, VtecFields};
 use crate::status::{BAD_VALUE, OK};
 use hazard_types::{
-    Action, Cause, Class, Flood, Hazard, Minute, Phen, Severity, Sig, Status, Vtec, is_location,
-    is_office, parse_significance,
+    Action, Cause, Class, Flood, Minute, Phen, Severity, Sig, Status, Vtec, is_location, is_office,
+    parse_significance,
 };
-use hvtec_string::hvtec_text;
-use vtec_string::vtec_text;
+use hvtec_string::{hvtec_text, hvtec_values};
+use vtec_string::{vtec_text, vtec_values};
 
 /// Returns the time of a number, which is `Some(None)` for zeros, or `None` if no time has it.
 fn time_of(number: u32) -> Option<Option<Minute>>
@@ -45,40 +46,13 @@ fn number_of(number: u16) -> Option<u16>
     if number <= 9999 { Some(number) } else { None }
 }
 
-/// Returns the values, if each field has one.
-fn vtec_by(
-    class: Option<Class>,
-    action: Option<Action>,
-    office: Option<[u8; 4]>,
-    phen: Option<Phen>,
-    sig: Option<Sig>,
-    etn: Option<u16>,
-    begin: Option<Option<Minute>>,
-    end: Option<Option<Minute>>,
-) -> Option<Vtec>
-    ensures { result ≡ vtec_by class action office phen sig etn begin end }
-{
-    Some(Vtec {
-        class: class?,
-        action: action?,
-        office: office?,
-        hazard: Hazard {
-            phen: phen?,
-            sig: sig?,
-        },
-        etn: etn?,
-        begin: begin?,
-        end: end?,
-    })
-}
-
 /// Returns the values that have these fields, if there are any.
 #[tactic(auto, unfolding(crate::specs::Writing::vtec_of))]
 fn vtec_of(fields: &VtecFields) -> Option<Vtec>
     ensures { result ≡ vtec_of fields.now }
 {
     let action = fields.action;
-    vtec_by(
+    vtec_values(
         Class::from_code(&[fields.class]),
         Action::from_code(&action),
         office_of(fields.office),
@@ -88,29 +62,6 @@ fn vtec_of(fields: &VtecFields) -> Option<Vtec>
         time_of(fields.begin),
         time_of(fields.end),
     )
-}
-
-/// Returns the values, if each field has one.
-fn flood_by(
-    site: Option<[u8; 5]>,
-    severity: Option<Severity>,
-    cause: Option<Cause>,
-    begin: Option<Option<Minute>>,
-    crest: Option<Option<Minute>>,
-    end: Option<Option<Minute>>,
-    status: Option<Status>,
-) -> Option<Flood>
-    ensures { result ≡ flood_by site severity cause begin crest end status }
-{
-    Some(Flood {
-        site: site?,
-        severity: severity?,
-        cause: cause?,
-        begin: begin?,
-        crest: crest?,
-        end: end?,
-        status: status?,
-    })
 }
 
 fn location_of(location: [u8; 5]) -> Option<[u8; 5]>
@@ -129,7 +80,7 @@ fn flood_of(fields: &FloodFields) -> Option<Flood>
     ensures { result ≡ flood_of fields.now }
 {
     let status = fields.record_status;
-    flood_by(
+    hvtec_values(
         location_of(fields.location),
         Severity::from_code(&[fields.severity]),
         Cause::new(fields.cause),

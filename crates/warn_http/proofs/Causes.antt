@@ -8,7 +8,9 @@ use Rattle.httparse.specs.declared.spans.HeaderSpan.{HeaderSpan}
 use Rattle.httparse.specs.declared.spans.RequestSpans.{RequestSpans}
 use Rattle.office_types.specs.declared.refusal.Refusal.{Refusal}
 use Rattle.office_types.specs.declared.refusal.Refusal.TheVariants.{BadHead, HeadTooLong}
-use Rattle.warn_http.specs.Heads.{Pair, most_bytes, most_fields, IsHead, IsBadHead, IsTooLong, IsCutHead}
+use Rattle.http_heads.specs.Fields.{Pair}
+use Rattle.http_heads.proofs.Sizes.{request_size}
+use Rattle.warn_http.specs.Heads.{most_bytes, most_fields, IsHead, IsBadHead, IsTooLong, IsCutHead}
 use Rattle.warn_http.specs.Wants.{wanted, wanted_by}
 use Rattle.warn_http.specs.Calls.{Called, called, as_read, IsCall, IsRefused, IsCutBody, IsUnfinished, Causes, LiesIn, IsWithin, call_at, posted_in, IsAnswer, RefusedOr, MoreOr}
 use Rattle.warn_http.specs.Readings.{Says, pairs_at, wanted_at, answer_to}
@@ -18,7 +20,6 @@ use Rattle.warn_http.specs.declared.routes.Aim.TheVariants as aim
 use Rattle.warn_http.specs.declared.wants.Wanted.{Wanted}
 use Rattle.warn_http.specs.declared.read.HttpRead.{HttpRead}
 use Rattle.warn_http.specs.declared.read.HttpRead.TheVariants as read
-use Rattle.warn_http.proofs.Sizes.{head_size}
 use Rattle.warn_http.proofs.Fronts.{reads_on, never_on, head_reads, one_head, bad_head, not_too_long}
 
 -- ---- of one head
@@ -155,7 +156,7 @@ within_answer : (bytes : List ℕ) (answer : HttpRead) → Causes bytes answer �
 within_answer bytes (read.Call call used last) cause =
     let size : ℕ = length (print_request cause.head) in
     let takes : used ≡ size + cause.wants.body = ap (λ (c : Called). c.used) cause.says in
-    let some = head_size cause.head cause.stands.reads.0.fields in
+    let some = request_size cause.head cause.stands.reads.0.fields in
     let whole = cause.whole in (
       omega arith,
       omega arith,

@@ -3,7 +3,8 @@ use Rattle.std.proofs.Common.{◌≡◌, ℕ, suc, ◌+◌, ◌<◌, Bool, true,
 use Rattle.std.specs.List.{list_any}
 use Rattle.std.proofs.Math.Seq.{drop-cons}
 use Rattle.warn_http.specs.Numbers.{number_of}
-use Rattle.warn_http.specs.Heads.{Pair, is_named, values_of, most_body, length_by, length_in, stated}
+use Rattle.http_heads.specs.Fields.{Pair, is_named}
+use Rattle.warn_http.specs.Heads.{values_of, most_body, length_by, length_in, stated}
 use Rattle.warn_http.specs.declared.numbers.Number.{Number}
 use Rattle.warn_http.specs.declared.numbers.Number.TheVariants.{NoNumber, TooLarge, Is}
 use Rattle.warn_http.specs.declared.fields.Stated.{Stated}

@@ -1,4 +1,3 @@
-pub mod Sizes
 pub mod Digits
 pub mod Folding
 pub mod Fronts
@@ -9,3 +8,4 @@ pub mod Paths
 pub mod Targets
 pub mod Short
 pub mod Statuses
+pub mod Fixed

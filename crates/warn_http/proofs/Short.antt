@@ -10,7 +10,8 @@ use Rattle.httparse.specs.declared.spans.RequestSpans.{RequestSpans}
 use Rattle.office_types.specs.declared.refusal.Refusal.{Refusal}
 use Rattle.office_types.specs.declared.refusal.Refusal.TheVariants.{WrongMethod}
 use Rattle.warn_http.specs.Numbers.{are_digits, number_from, at_most, number_of}
-use Rattle.warn_http.specs.Heads.{Pair, fields_of, most_body, most_bytes, length_by, length_in, stated, IsHead, IsCutHead}
+use Rattle.http_heads.specs.Fields.{Pair}
+use Rattle.warn_http.specs.Heads.{fields_of, most_body, most_bytes, length_by, length_in, stated, IsHead, IsCutHead}
 use Rattle.warn_http.specs.Wants.{sized, framed, with_method, judged, wanted, wanted_by}
 use Rattle.warn_http.specs.Routes.{method_of}
 use Rattle.warn_http.specs.Calls.{IsCutBody, IsUnfinished}

@@ -136,6 +136,14 @@ board_row row route (inr (inr (inr (inr (inr (inr none)))))) e = absurd none
 is_path : (path : List ℕ) (one other : Aim) → one ≡ other → IsPath path one → IsPath path other
 is_path path one other e is = subst (IsPath path) e is
 
+-- the number behind a prefix is the one that is looked at
+path_behind : (prefix path : List ℕ) (query : ℕ → Query) (aim : Aim)
+    → ((n : ℕ) → (digits : List ℕ) × (path ≡ prefix ++ digits) × Writes digits n → IsPath path (Look (query n)))
+    → look_by query (number_behind prefix path) ≡ Some aim → IsPath path aim
+path_behind prefix path query aim is e =
+    let l = looks query (number_behind prefix path) aim e in
+    is_path path (Look (query l.0)) aim (sym l.2) (is l.0 (behind_writes prefix path l.0 l.1))
+
 route_path : (path : List ℕ) (route : RouteOf Place) → Found 0 desk_routes path route
     → (value : Place) → route.value ≡ value → (aim : Aim) → aim_at value path ≡ Some aim → IsPath path aim
 route_path path route f place.Requests is aim e =
@@ -148,18 +156,10 @@ route_path path route f place.Board is aim e =
     let plain : is_plain f.row ≡ true = subst (λ (t : List ℕ). is_plain t ≡ true) (sym row) refl in
     let same : Look Board ≡ aim = cc in
     is_path path (Look Board) aim same (f.plain plain refl ∙ row)
-route_path path route f place.Product is aim e =
-    let l = looks Product (number_behind (codes "/products/") path) aim e in
-    is_path path (Look (Product l.0)) aim (sym l.2) (behind_writes (codes "/products/") path l.0 l.1)
-route_path path route f place.After is aim e =
-    let l = looks After (number_behind (codes "/products/after/") path) aim e in
-    is_path path (Look (After l.0)) aim (sym l.2) (behind_writes (codes "/products/after/") path l.0 l.1)
-route_path path route f place.Draft is aim e =
-    let l = looks Draft (number_behind (codes "/drafts/") path) aim e in
-    is_path path (Look (Draft l.0)) aim (sym l.2) (behind_writes (codes "/drafts/") path l.0 l.1)
-route_path path route f place.Preview is aim e =
-    let l = looks Preview (number_behind (codes "/preview/") path) aim e in
-    is_path path (Look (Preview l.0)) aim (sym l.2) (behind_writes (codes "/preview/") path l.0 l.1)
+route_path path route f place.Product is aim e = path_behind (codes "/products/") path Product aim (λ n behind. behind) e
+route_path path route f place.After is aim e = path_behind (codes "/products/after/") path After aim (λ n behind. behind) e
+route_path path route f place.Draft is aim e = path_behind (codes "/drafts/") path Draft aim (λ n behind. behind) e
+route_path path route f place.Preview is aim e = path_behind (codes "/preview/") path Preview aim (λ n behind. behind) e
 
 pub aim_path : (path : List ℕ) (aim : Aim) → aim_of path ≡ Some aim → IsPath path aim
 unfolding aim_of

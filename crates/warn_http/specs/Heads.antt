@@ -1,34 +1,18 @@
 -- The head of a call and its fields, by httparse's grammar.
-use Rattle.std.specs.Prelude.{◌≡◌, ◌≤◌, ◌<◌, ◌⊎◌, ℕ, ◌==◌, ◌||◌, ◌&&◌, Bool, List, [], ◌∷◌, length, take, map, filter, codes}
-use Rattle.std.specs.Char.{to_ascii_lowercase}
+use Rattle.std.specs.Prelude.{◌≡◌, ◌≤◌, ◌<◌, ◌⊎◌, ℕ, ◌==◌, ◌||◌, Bool, List, [], ◌∷◌, length, take, map, filter, codes}
 use Rattle.std.specs.List.{list_any}
-use Rattle.std.specs.Str.{bytes_eq}
 use Rattle.httparse.specs.Grammar.{RequestHead, ReadsRequest, HasNoRequest, NeverHasRequest, MayBecomeRequest}
 use Rattle.httparse.specs.Spans.{name_and_value}
+use Rattle.http_heads.specs.Fields.{Pair, has_close, is_named}
 use Rattle.warn_http.specs.Numbers.{number_of}
 use Rattle.warn_http.specs.declared.numbers.Number.{Number}
 use Rattle.warn_http.specs.declared.numbers.Number.TheVariants.{NoNumber, TooLarge, Is}
 use Rattle.warn_http.specs.declared.fields.Stated.{Stated}
 use Rattle.warn_http.specs.declared.fields.Stated.TheVariants.{Absent, Bytes, TooLong, Wrong}
 
--- a field's name, and its value without the blanks round it
-abbrev pub Pair : Type 0
-Pair = List ℕ × List ℕ
-
 -- the fields of a head
 abbrev pub fields_of : RequestHead → List Pair
 fields_of h = map name_and_value h.fields
-
--- the same letters, without regard to case
-abbrev pub same_letters : List ℕ → List ℕ → Bool
-same_letters a b = bytes_eq (map to_ascii_lowercase a) (map to_ascii_lowercase b)
-
-abbrev pub is_named : List ℕ → Pair → Bool
-is_named name pair = same_letters pair.0 name
-
--- a field of this name is there
-abbrev pub has_field : List ℕ → List Pair → Bool
-has_field name pairs = list_any (is_named name) pairs
 
 -- the values of the fields of this name, in their order
 abbrev pub values_of : List ℕ → List Pair → List (List ℕ)
@@ -53,13 +37,9 @@ length_in (value ∷ other ∷ values) = Wrong
 unfoldable pub stated : List Pair → Stated
 stated pairs = length_in (values_of (codes "content-length") pairs)
 
--- a field Connection with the value `close`
-abbrev pub asks_to_close : Pair → Bool
-asks_to_close pair = is_named (codes "connection") pair && same_letters pair.1 (codes "close")
-
 -- the link closes after a call of HTTP/1.0, and after one that asks for it
 unfoldable pub closes : ℕ → List Pair → Bool
-closes minor pairs = (minor == 0) || list_any asks_to_close pairs
+closes minor pairs = (minor == 0) || has_close pairs
 
 -- a line feed is among the bytes
 abbrev pub has_line_feed : List ℕ → Bool

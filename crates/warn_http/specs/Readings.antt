@@ -5,7 +5,8 @@ use Rattle.httparse.specs.Spans.{IsRequestOf, IsRequestWithin, header_bytes, spa
 use Rattle.httparse.specs.declared.spans.HeaderSpan.{HeaderSpan}
 use Rattle.httparse.specs.declared.spans.RequestSpans.{RequestSpans}
 use Rattle.office_types.specs.declared.refusal.Refusal.{Refusal}
-use Rattle.warn_http.specs.Heads.{Pair, most_bytes, most_fields}
+use Rattle.http_heads.specs.Fields.{Pair}
+use Rattle.warn_http.specs.Heads.{most_bytes, most_fields}
 use Rattle.warn_http.specs.Wants.{wanted}
 use Rattle.warn_http.specs.Calls.{call_at}
 use Rattle.warn_http.specs.declared.fields.Stated.{Stated}

@@ -4,7 +4,8 @@ use Rattle.std.specs.Str.{bytes_eq}
 use Rattle.httparse.specs.Grammar.{RequestHead}
 use Rattle.office_types.specs.declared.refusal.Refusal.{Refusal}
 use Rattle.office_types.specs.declared.refusal.Refusal.TheVariants.{BadHead, NoRoute, WrongMethod, NoLength, BodyTooLong}
-use Rattle.warn_http.specs.Heads.{Pair, fields_of, has_field, stated, closes}
+use Rattle.http_heads.specs.Fields.{Pair, has_field}
+use Rattle.warn_http.specs.Heads.{fields_of, stated, closes}
 use Rattle.warn_http.specs.Routes.{aim_of, method_of}
 use Rattle.warn_http.specs.declared.fields.Stated.{Stated}
 use Rattle.warn_http.specs.declared.fields.Stated.TheVariants.{Absent, Bytes, TooLong, Wrong}

@@ -10,6 +10,7 @@ ghost use Rattle.warn_http.specs.Calls.{Called, HasNoWholeCall, IsCall, IsRefuse
 /// A call at the start of some bytes is the same call when more bytes follow, and a refused call
 /// stays refused. So where a stream's calls end for another reason than that its bytes end, they
 /// are the calls of every longer stream.
+#[tactic(auto, using(crate::proofs::Streams::cut_stays, crate::proofs::Streams::calls_stay))]
 pub fn calls_stay()
     ensures call { (bytes more : List ℕ) (c : Called) → IsCall bytes c → IsCall (bytes ++ more) c }
     ensures refused { (bytes more : List ℕ) (f : Refusal) →

@@ -1,5 +1,5 @@
 //! What becomes of a call, and the bytes of its answer.
-ghost use Rattle.std.specs.Prelude.{◌≡◌, IsTrue, IfOk};
+ghost use Rattle.std.specs.Prelude.{◌≡◌, IsTrue, IfOk, if◌then◌else◌};
 ghost use Rattle.warn_http.specs.Answers.{is_status};
 ghost use Rattle.warn_http.specs.Outcomes.{kind_of, outcome_status, outcome_kind, call_answer, disk_fault_json, no_memory_json};
 
@@ -78,16 +78,33 @@ pub fn write_call_answer(
     write_answer(alloc, outcome.status(), outcome.kind(), body, last)
 }
 
+// The fixed answers for a disk fault and for out of memory, to a link that stays open and to one
+// that closes.
+const DISK_FAULT: &[u8] =
+    b"HTTP/1.1 500 Internal Server Error\r\nContent-Type: application/json\r\nContent-Length: 30\r\n\r\n{\"no\":\"D1\",\"rule\":\"DiskFault\"}";
+
+const LAST_DISK_FAULT: &[u8] =
+    b"HTTP/1.1 500 Internal Server Error\r\nContent-Type: application/json\r\nContent-Length: 30\r\nConnection: close\r\n\r\n{\"no\":\"D1\",\"rule\":\"DiskFault\"}";
+
+const NO_MEMORY: &[u8] =
+    b"HTTP/1.1 503 Service Unavailable\r\nContent-Type: application/json\r\nContent-Length: 32\r\n\r\n{\"no\":\"M1\",\"rule\":\"OutOfMemory\"}";
+
+const LAST_NO_MEMORY: &[u8] =
+    b"HTTP/1.1 503 Service Unavailable\r\nContent-Type: application/json\r\nContent-Length: 32\r\nConnection: close\r\n\r\n{\"no\":\"M1\",\"rule\":\"OutOfMemory\"}";
+
+// The answer that closes the link if `last`, or else the one that leaves it open.
+fn fixed(last: bool, closing: &'static [u8], staying: &'static [u8]) -> &'static [u8]
+    ensures { result.now ≡ (if last then closing.now else staying.now) }
+{
+    if last { closing } else { staying }
+}
+
 /// Returns the fixed 500 answer for a disk fault, with `Connection: close` if `last`. Allocates
 /// nothing.
 pub fn disk_fault_answer(last: bool) -> &'static [u8]
     ensures { result.now ≡ call_answer Outcome.DiskFault disk_fault_json last }
 {
-    if last {
-        b"HTTP/1.1 500 Internal Server Error\r\nContent-Type: application/json\r\nContent-Length: 30\r\nConnection: close\r\n\r\n{\"no\":\"D1\",\"rule\":\"DiskFault\"}"
-    } else {
-        b"HTTP/1.1 500 Internal Server Error\r\nContent-Type: application/json\r\nContent-Length: 30\r\n\r\n{\"no\":\"D1\",\"rule\":\"DiskFault\"}"
-    }
+    fixed(last, LAST_DISK_FAULT, DISK_FAULT)
 }
 
 /// Returns the fixed 503 answer for out of memory, with `Connection: close` if `last`. Allocates
@@ -95,9 +112,5 @@ pub fn disk_fault_answer(last: bool) -> &'static [u8]
 pub fn no_memory_answer(last: bool) -> &'static [u8]
     ensures { result.now ≡ call_answer Outcome.OutOfMemory no_memory_json last }
 {
-    if last {
-        b"HTTP/1.1 503 Service Unavailable\r\nContent-Type: application/json\r\nContent-Length: 32\r\nConnection: close\r\n\r\n{\"no\":\"M1\",\"rule\":\"OutOfMemory\"}"
-    } else {
-        b"HTTP/1.1 503 Service Unavailable\r\nContent-Type: application/json\r\nContent-Length: 32\r\n\r\n{\"no\":\"M1\",\"rule\":\"OutOfMemory\"}"
-    }
+    fixed(last, LAST_NO_MEMORY, NO_MEMORY)
 }

@@ -4,9 +4,10 @@ ghost use Rattle.httparse.specs.Spans.{IsRequestWithin, span_bytes};
 ghost use Rattle.warn_http.specs.Wants.{sized, framed, with_method, judged, wanted};
 ghost use Rattle.warn_http.specs.Readings.{wanted_at};
 
-use crate::fields::{Stated, closes, has_field, stated_length};
+use crate::fields::{Stated, closes, stated_length};
 use crate::routes::{Aim, method_of};
 use crate::table::Routes;
+use http_heads::has_field;
 use httparse::spans::{HeaderSpan, RequestSpans};
 use office_types::Refusal;
 use std::str;
@@ -63,21 +64,6 @@ fn with_method(
     }
 }
 
-fn want_by_rules(
-    method: &[u8],
-    encoded: bool,
-    length: Stated,
-    aim: Option<Aim>,
-    last: bool,
-) -> Result<Wanted, Refusal>
-    ensures { result ≡ judged method.now encoded length aim last }
-{
-    match length {
-        Stated::Wrong => Err(Refusal::BadHead),
-        _ => with_method(method, encoded, length, aim, last),
-    }
-}
-
 /// Returns what a whole head within the limits asks for, or the first rule that it breaks: F1 for
 /// its `Content-Length`, then F3, F4, F5 and F6.
 #[tactic(auto, unfolding(crate::specs::Wants::wanted))]
@@ -100,5 +86,8 @@ pub fn want_of(
     let length = stated_length(front, fields);
     let aim = routes.aim_of(path);
     let last = closes(spans.version, front, fields);
-    want_by_rules(method, encoded, length, aim, last)
+    match length {
+        Stated::Wrong => Err(Refusal::BadHead),
+        _ => with_method(method, encoded, length, aim, last),
+    }
 }

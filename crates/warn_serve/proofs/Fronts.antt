@@ -43,6 +43,20 @@ then_second old mid new first second r u a b = record {
   input = b.input ∙ a.input;
 }
 
+-- two pieces, of which the first was not written whole
+pub first_failed : {E : Type 0} (old new : LinkState) (first second : List ℕ) (r : Result (Unit {0}) E)
+    → AddsPart old.output.taken new.output.taken first → new.came ≡ old.came → new.input ≡ old.input
+    → OnOk r (Adds old.output.taken new.output.taken (first ++ second)) → HasCause old.output.faults new.output.faults r → OnOk r (new.output.faults ≡ old.output.faults)
+    → WritesLink old new r (first ++ second)
+first_failed old new first second r part came input ok cause steady = record {
+  ok = ok;
+  part = part_first old.output.taken new.output.taken first second part;
+  cause = cause;
+  steady = steady;
+  came = came;
+  input = input;
+}
+
 -- ---- the answer that gives a reply
 
 -- what stands before the number of its bytes

@@ -5,7 +5,7 @@ use Rattle.desk_links.specs.Links.{DoorState, IsNew, LinkState}
 use Rattle.warn_http.specs.Calls.{Called}
 use Rattle.warn_serve.specs.Links.{IsServedLink}
 use Rattle.warn_serve.specs.declared.links.LinkEnd.{LinkEnd}
-use Rattle.warn_serve.specs.declared.links.LinkEnd.TheVariants.{Closed, Cut, Spent, LinkFault, OutOfMemory}
+use Rattle.warn_serve.specs.declared.links.LinkEnd.TheVariants.{OutOfMemory}
 use Rattle.warn_serve.specs.declared.workers.WorkerEnd.{WorkerEnd}
 use Rattle.warn_serve.specs.declared.workers.WorkerEnd.TheVariants.{Done, PortFault}
 
@@ -16,11 +16,8 @@ pub record Visit : Type 0 where
 
 -- 1 for a link that memory ended
 abbrev pub count_if_out_of_memory : LinkEnd → ℕ
-count_if_out_of_memory Closed = 0
-count_if_out_of_memory Cut = 0
-count_if_out_of_memory Spent = 0
-count_if_out_of_memory LinkFault = 0
 count_if_out_of_memory OutOfMemory = 1
+count_if_out_of_memory _ = 0
 
 -- the links that were returned, in order
 abbrev pub links_of : List Visit → List LinkState

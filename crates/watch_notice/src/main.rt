@@ -1,11 +1,11 @@
-//! The program of county notices: `watch_notice OFFICE ZONE`. `county_notices::run_program` does
+//! The program of county notices: `watch_notice OFFICE ZONE`. `county_notices::CountyNotices` does
 //! all of it (docs/NOTICES.md).
 #![tactic(auto)]
 
-use county_notices::run_program;
+use county_notices::CountyNotices;
 use program_outside::host_io;
 use std::process::ExitCode;
 
 fn main(rt: HostRuntime) -> ExitCode {
-    run_program(&mut host_io(&rt))
+    host_io(&rt).run::<CountyNotices>()
 }

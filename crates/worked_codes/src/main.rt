@@ -17,54 +17,29 @@ use crate::tour::script::Tour;
 use hazard_types::Oom;
 use std::alloc::Global;
 use std::process::ExitCode;
-use worked_lines::{Work, rows_named, work_lines};
+use worked_lines::{Scripts, Work, work_lines};
 
-/// What kind the lines are.
-#[derive(Clone, Copy)]
-enum Rows {
-    Codes,
-    Texts,
-    Requests,
-    Calls,
-    Tour,
-}
-
-impl Rows {
-    /// Returns the kind with this name, or `None`.
-    fn of(name: &str) -> Option<Self> {
-        match name {
-            "codes" => Some(Rows::Codes),
-            "texts" => Some(Rows::Texts),
-            "requests" => Some(Rows::Requests),
-            "calls" => Some(Rows::Calls),
-            "tour" => Some(Rows::Tour),
-            _ => None,
-        }
-    }
-}
-
-/// The scripts, and the kind of the present lines.
+/// The scripts of the kinds of lines.
 #[derive(Drop)]
 struct Script {
-    rows: Rows,
     calls: Calls,
     tour: Tour,
 }
 
-impl Work for Script {
-    /// Returns what the present kind of script prints for a line. A line that sets the kind is
-    /// returned unchanged.
-    fn work(&mut self, alloc: Global, line: &str) -> Result<String, Oom> {
-        if let Some(rows) = rows_named(line).and_then(Rows::of) {
-            self.rows = rows;
-            return Ok(format!(in alloc; "{line}\n")?);
-        }
-        match self.rows {
-            Rows::Codes => Codes.work(alloc, line),
-            Rows::Texts => Texts.work(alloc, line),
-            Rows::Requests => Requests.work(alloc, line),
-            Rows::Calls => self.calls.work(alloc, line),
-            Rows::Tour => self.tour.work(alloc, line),
+impl Scripts for Script {
+    /// Whether a kind of lines has this name.
+    fn has(&self, name: &str) -> bool {
+        matches!(name, "codes" | "texts" | "requests" | "calls" | "tour")
+    }
+
+    /// Returns what the script of a kind prints for a line.
+    fn work_as(&mut self, alloc: Global, name: &str, line: &str) -> Result<String, Oom> {
+        match name {
+            "texts" => Texts.work(alloc, line),
+            "requests" => Requests.work(alloc, line),
+            "calls" => self.calls.work(alloc, line),
+            "tour" => self.tour.work(alloc, line),
+            _ => Codes.work(alloc, line),
         }
     }
 }
@@ -75,7 +50,6 @@ fn main(rt: HostRuntime) -> ExitCode {
         Ok(calls) => work_lines(
             &rt,
             Script {
-                rows: Rows::Codes,
                 calls,
                 tour: Tour::new(alloc),
             },

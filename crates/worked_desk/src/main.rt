@@ -6,56 +6,37 @@
 mod desk;
 mod notices;
 mod program;
+mod streams;
 
 use crate::desk::script::Script as Desk;
-use crate::notices::script::Script as Notices;
-use crate::program::script::Script as Program;
+use crate::notices::script::Notices;
+use crate::program::script::Program;
+use crate::streams::Script as Streams;
 use hazard_types::Oom;
 use std::alloc::Global;
 use std::process::ExitCode;
-use worked_lines::{Work, rows_named, work_lines};
+use worked_lines::{Scripts, Work, work_lines};
 
-/// What kind the lines are.
-#[derive(Clone, Copy)]
-enum Rows {
-    Desk,
-    Program,
-    Notices,
-}
-
-impl Rows {
-    /// Returns the kind with this name, or `None`.
-    fn of(name: &str) -> Option<Self> {
-        match name {
-            "desk" => Some(Rows::Desk),
-            "program" => Some(Rows::Program),
-            "notices" => Some(Rows::Notices),
-            _ => None,
-        }
-    }
-}
-
-/// The scripts, and the kind of the present lines.
+/// The scripts of the kinds of lines.
 #[derive(Drop)]
 struct Script {
-    rows: Rows,
     desk: Desk,
-    program: Program,
-    notices: Notices,
+    program: Streams<Program>,
+    notices: Streams<Notices>,
 }
 
-impl Work for Script {
-    /// Returns what the present kind of script prints for a line. A line that sets the kind is
-    /// returned unchanged.
-    fn work(&mut self, alloc: Global, line: &str) -> Result<String, Oom> {
-        if let Some(rows) = rows_named(line).and_then(Rows::of) {
-            self.rows = rows;
-            return Ok(format!(in alloc; "{line}\n")?);
-        }
-        match self.rows {
-            Rows::Desk => self.desk.work(alloc, line),
-            Rows::Program => self.program.work(alloc, line),
-            Rows::Notices => self.notices.work(alloc, line),
+impl Scripts for Script {
+    /// Whether a kind of lines has this name.
+    fn has(&self, name: &str) -> bool {
+        matches!(name, "desk" | "program" | "notices")
+    }
+
+    /// Returns what the script of a kind prints for a line.
+    fn work_as(&mut self, alloc: Global, name: &str, line: &str) -> Result<String, Oom> {
+        match name {
+            "program" => self.program.work(alloc, line),
+            "notices" => self.notices.work(alloc, line),
+            _ => self.desk.work(alloc, line),
         }
     }
 }
@@ -63,10 +44,9 @@ impl Work for Script {
 fn main(rt: HostRuntime) -> ExitCode {
     let alloc = rt.alloc();
     let script = Script {
-        rows: Rows::Desk,
         desk: Desk::new(alloc),
-        program: Program::new(alloc),
-        notices: Notices::new(alloc),
+        program: Streams::new(alloc, Program::new()),
+        notices: Streams::new(alloc, Notices),
     };
     work_lines(&rt, script)
 }

@@ -6,6 +6,11 @@ use std::str;
 /// The largest number of repetitions that `times_of` returns.
 const MOST_TIMES: u32 = 100_000;
 
+/// Whether a line does and prints nothing: an empty one, or one that begins with `#`.
+pub fn is_remark(line: &str) -> bool {
+    line.is_empty() || line.starts_with('#')
+}
+
 /// Returns what is printed for a line that a script cannot read: `unread: LINE`, with a line end.
 ///
 /// # Errors
@@ -70,4 +75,14 @@ pub fn text_of(bytes: &[u8]) -> &str {
 /// Out of memory.
 pub fn shown(alloc: Global, bytes: &[u8]) -> Result<String, Oom> {
     Ok(String::from_utf8_lossy(alloc, bytes)?)
+}
+
+/// Returns a text, with U+FFFD in place of what is not UTF-8, and then a line with an exit status.
+///
+/// # Errors
+///
+/// Out of memory.
+pub fn with_status(alloc: Global, text: &[u8], status: u8) -> Result<String, Oom> {
+    let text = shown(alloc, text)?;
+    Ok(format!(in alloc; "{text}status {status}\n")?)
 }

@@ -12,52 +12,32 @@ use crate::outside::script::Script as Outside;
 use hazard_types::Oom;
 use std::alloc::Global;
 use std::process::ExitCode;
-use worked_lines::{Work, rows_named, work_lines};
+use worked_lines::{Scripts, Work, work_lines};
 
-/// What kind the lines are.
-#[derive(Clone, Copy)]
-enum Rows {
-    Office,
-    Outside,
-}
-
-impl Rows {
-    /// Returns the kind with this name, or `None`.
-    fn of(name: &str) -> Option<Self> {
-        match name {
-            "office" => Some(Rows::Office),
-            "outside" => Some(Rows::Outside),
-            _ => None,
-        }
-    }
-}
-
-/// The scripts, and the kind of the present lines.
+/// The scripts of the kinds of lines.
 #[derive(Drop)]
 struct Script<'a> {
-    rows: Rows,
     office: Office,
     outside: Outside<'a>,
 }
 
-impl Work for Script<'_> {
-    /// Returns what the present kind of script prints for a line. A line that sets the kind is
-    /// returned unchanged.
-    fn work(&mut self, alloc: Global, line: &str) -> Result<String, Oom> {
-        if let Some(rows) = rows_named(line).and_then(Rows::of) {
-            self.rows = rows;
-            return Ok(format!(in alloc; "{line}\n")?);
-        }
-        match self.rows {
-            Rows::Office => self.office.work(alloc, line),
-            Rows::Outside => self.outside.work(alloc, line),
+impl Scripts for Script<'_> {
+    /// Whether a kind of lines has this name.
+    fn has(&self, name: &str) -> bool {
+        matches!(name, "office" | "outside")
+    }
+
+    /// Returns what the script of a kind prints for a line.
+    fn work_as(&mut self, alloc: Global, name: &str, line: &str) -> Result<String, Oom> {
+        match name {
+            "outside" => self.outside.work(alloc, line),
+            _ => self.office.work(alloc, line),
         }
     }
 }
 
 fn main(rt: HostRuntime) -> ExitCode {
     let script = Script {
-        rows: Rows::Office,
         office: Office::new(rt.alloc()),
         outside: Outside { rt: &rt },
     };

@@ -18,10 +18,14 @@ pub one_more : (products : List Sent) (sent : Sent) → AllByRecursion HasApart 
 one_more [] sent all one = (one, tt)
 one_more (s ∷ products) sent all one = (all.0, one_more products sent all.1 one)
 
-pub apart_at : (products : List Sent) (place : ℕ) (d : Sent) → place < length products → AllByRecursion HasApart products → AllPairs IsApart (get_or products place d).lines
+apart_at : (products : List Sent) (place : ℕ) (d : Sent) → place < length products → AllByRecursion HasApart products → AllPairs IsApart (get_or products place d).lines
 apart_at [] place d within all = absurd (omega (arith, within))
 apart_at (s ∷ products) zero d within all = all.0
 apart_at (s ∷ products) (suc place) d within all = apart_at products place d (omega (arith, within)) all.1
+
+-- no two lines of the product at a place are of one event in one zone
+pub apart_before : (products : List Sent) (place : ℕ) (s : Sent) → s ≡ get_or products place s → place < length products → AllByRecursion HasApart products → AllPairs IsApart s.lines
+apart_before products place s is within all = subst (λ (x : Sent). AllPairs IsApart x.lines) (sym is) (apart_at products place s within all)
 
 -- what stands at a minute, for what may be sent then
 pub may_plan : (rows : List Row) (counts : List Count) (c : Category) (intents : List Intent) (last t : ℕ) → MaySend c intents last t → Stands rows counts t → CanPlan rows counts c intents t

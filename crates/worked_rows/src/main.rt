@@ -13,49 +13,28 @@ use crate::steps::script::Script as Steps;
 use hazard_types::Oom;
 use std::alloc::Global;
 use std::process::ExitCode;
-use worked_lines::{Work, rows_named, work_lines};
+use worked_lines::{Scripts, Work, work_lines};
 
-/// What kind the lines are.
-#[derive(Clone, Copy)]
-enum Rows {
-    Steps,
-    Board,
-    Archive,
-}
-
-impl Rows {
-    /// Returns the kind with this name, or `None`.
-    fn of(name: &str) -> Option<Self> {
-        match name {
-            "steps" => Some(Rows::Steps),
-            "board" => Some(Rows::Board),
-            "archive" => Some(Rows::Archive),
-            _ => None,
-        }
-    }
-}
-
-/// The scripts, and the kind of the present lines.
+/// The scripts of the kinds of lines.
 #[derive(Drop)]
 struct Script {
-    rows: Rows,
     steps: Steps,
     board: Board,
     archive: Archive,
 }
 
-impl Work for Script {
-    /// Returns what the present kind of script prints for a line. A line that sets the kind is
-    /// returned unchanged.
-    fn work(&mut self, alloc: Global, line: &str) -> Result<String, Oom> {
-        if let Some(rows) = rows_named(line).and_then(Rows::of) {
-            self.rows = rows;
-            return Ok(format!(in alloc; "{line}\n")?);
-        }
-        match self.rows {
-            Rows::Steps => self.steps.work(alloc, line),
-            Rows::Board => self.board.work(alloc, line),
-            Rows::Archive => self.archive.work(alloc, line),
+impl Scripts for Script {
+    /// Whether a kind of lines has this name.
+    fn has(&self, name: &str) -> bool {
+        matches!(name, "steps" | "board" | "archive")
+    }
+
+    /// Returns what the script of a kind prints for a line.
+    fn work_as(&mut self, alloc: Global, name: &str, line: &str) -> Result<String, Oom> {
+        match name {
+            "board" => self.board.work(alloc, line),
+            "archive" => self.archive.work(alloc, line),
+            _ => self.steps.work(alloc, line),
         }
     }
 }
@@ -63,7 +42,6 @@ impl Work for Script {
 fn main(rt: HostRuntime) -> ExitCode {
     let alloc = rt.alloc();
     let script = Script {
-        rows: Rows::Steps,
         steps: Steps::new(alloc),
         board: Board::new(alloc),
         archive: Archive::new(alloc),

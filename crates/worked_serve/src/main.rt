@@ -6,39 +6,20 @@
 mod follow;
 mod memory;
 mod offices;
+mod plain;
 mod serve;
 mod turns;
 
 use crate::follow::script::Script as Following;
 use crate::serve::script::Script as Serving;
 use crate::turns::line::answer as turns_answer;
-use hazard_types::Oom;
 use std::io;
 use std::net::{Net, TcpListener, TcpStream};
 use std::process::ExitCode;
 use std::sync::Wait;
 use std::thread::Threads;
 use std::time::Clock;
-use worked_lines::{Work, rows_named};
-
-/// Why a run ends before the last line.
-#[derive(Debug, Drop)]
-enum Stop {
-    Stream(io::Error),
-    OutOfMemory,
-}
-
-impl From<io::Error> for Stop {
-    fn from(error: io::Error) -> Self {
-        Stop::Stream(error)
-    }
-}
-
-impl From<Oom> for Stop {
-    fn from(_: Oom) -> Self {
-        Stop::OutOfMemory
-    }
-}
+use worked_lines::{Stop, Work, rows_named, status_of};
 
 /// What kind the lines are.
 #[derive(Clone, Copy)]
@@ -96,8 +77,5 @@ fn run<
 }
 
 fn main(rt: HostRuntime) -> ExitCode {
-    match run(&rt) {
-        Ok(()) => ExitCode::SUCCESS,
-        Err(_stop) => ExitCode::FAILURE,
-    }
+    status_of(run(&rt))
 }

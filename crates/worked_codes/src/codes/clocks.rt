@@ -1,30 +1,15 @@
 //! The readers of local times and day stamps.
 use desk_clock::{LocalFault, local_line, local_short, near, read_local_line, resolve_day_stamp};
+use desk_settings::local_zone_in;
 use hazard_types::{DayStamp, LocalZone, Minute, Oom, read_stamp, stamp};
 use std::alloc::{AllocError, Global};
 use worked_lines::text_of;
-
-/// Returns the local zone with this name, or `None`.
-pub fn zone_of(name: &str) -> Option<LocalZone> {
-    match name {
-        "Atlantic" => Some(LocalZone::Atlantic),
-        "Eastern" => Some(LocalZone::Eastern),
-        "Central" => Some(LocalZone::Central),
-        "Mountain" => Some(LocalZone::Mountain),
-        "Arizona" => Some(LocalZone::Arizona),
-        "Pacific" => Some(LocalZone::Pacific),
-        "Alaska" => Some(LocalZone::Alaska),
-        "Hawaii" => Some(LocalZone::Hawaii),
-        "UTC" => Some(LocalZone::Utc),
-        _ => None,
-    }
-}
 
 /// Returns the local zone and minute of the words `ZONE STAMP`, or `None` if they are not such
 /// words.
 fn place_of(text: &str) -> Option<(LocalZone, Minute)> {
     let (name, stamp) = text.split_once(' ')?;
-    let zone = zone_of(name)?;
+    let zone = local_zone_in(name)?;
     let minute = read_stamp(stamp.as_bytes())?;
     Some((zone, minute))
 }

@@ -1,5 +1,5 @@
 //! Lines of segments as a script writes them.
-use crate::codes::clocks::zone_of;
+use desk_settings::local_zone_in;
 use hazard_types::{
     Action, End, Event, LocalZone, Minute, SegLine, actions, find, hazard_in, parse_event,
     read_stamp,
@@ -76,7 +76,7 @@ pub fn read_line(words: &str) -> Option<Said> {
     let event = event_of(words.next()?)?;
     let begin = begin_of(words.next()?)?;
     let end = end_of(words.next()?)?;
-    let zone = zone_of(words.next()?)?;
+    let zone = local_zone_in(words.next()?)?;
     let t = minute_of(words.next()?)?;
     Some(Said {
         line: line_of(action, event, begin, end),

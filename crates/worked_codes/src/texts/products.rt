@@ -101,8 +101,10 @@ fn put_refusal(out: &mut String, alloc: Global, refusal: &Refusal) -> Result<(),
     Ok(())
 }
 
-/// Makes the text of a plan `before` times, and drops each.
-fn make_texts(
+/// Makes the text of a plan `before` times and drops each, and then appends the text, or its length
+/// in bytes, or that it is too long.
+fn put_product(
+    out: &mut String,
     alloc: Global,
     settings: &Settings,
     asked: &Asked,
@@ -118,20 +120,6 @@ fn make_texts(
             Err(Or::OutOfMemory) => return Err(Oom),
         }
     }
-    Ok(())
-}
-
-/// Appends the text of a plan, or its length in bytes, or that it is too long.
-fn put_product(
-    out: &mut String,
-    alloc: Global,
-    settings: &Settings,
-    asked: &Asked,
-    plan: &Plan,
-    t: Minute,
-) -> Result<(), Oom>
-    requires { CanBeText settings.now asked.now.class plan.now t }
-{
     match product_text(alloc, settings, asked.class, plan, t, asked.edition) {
         Ok(text) => {
             if asked.whole {
@@ -175,7 +163,6 @@ fn put_fitting(
         return Ok(());
     }
     let plan = plan_of(alloc, asked.category, asked.letter, zones, &line, texts)?;
-    make_texts(alloc, settings, asked, &plan, t)?;
     put_product(out, alloc, settings, asked, &plan, t)
 }
 

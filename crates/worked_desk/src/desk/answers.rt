@@ -3,15 +3,6 @@ use crate::desk::sweeps::Tally;
 use hazard_types::{Oom, Text};
 use std::alloc::Global;
 
-/// Returns what is printed for a line that is no step: `unread: LINE`, with a line end.
-///
-/// # Errors
-///
-/// Out of memory.
-pub fn unread(alloc: Global, line: &str) -> Result<String, Oom> {
-    Ok(format!(in alloc; "unread: {line}\n")?)
-}
-
 /// Returns what a command wrote, and a line with its exit status, the number of bytes of the file
 /// after it, and whether the file is unchanged.
 ///

@@ -1,6 +1,6 @@
 //! Runs over each beginning of a file or of settings.
 use crate::desk::answers::cut_answer;
-use crate::desk::runs::{Command, Given, NO_FAULTS, Run, run_command};
+use crate::desk::runs::{Given, NO_FAULTS, Run, run_command};
 use crate::desk::steps::Cutting;
 use hazard_types::{List, Oom, Text};
 use std::alloc::Global;
@@ -12,13 +12,13 @@ fn run_on(alloc: Global, cutting: Cutting, bytes: &[u8]) -> Result<Run, Oom> {
         readings: List::new(alloc),
     };
     match cutting {
-        Cutting::File => run_command(alloc, &Command::Export, &none, bytes, &NO_FAULTS),
+        Cutting::File => run_command(alloc, "export", &none, bytes, &NO_FAULTS),
         Cutting::Settings => {
             let given = Given {
                 input: List::from_slice(alloc, bytes)?,
                 readings: none.readings,
             };
-            run_command(alloc, &Command::Init, &given, b"", &NO_FAULTS)
+            run_command(alloc, "init", &given, b"", &NO_FAULTS)
         }
     }
 }

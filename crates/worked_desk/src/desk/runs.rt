@@ -1,26 +1,16 @@
 //! Runs of a command over a disk in memory.
 use byte_streams::{MemSink, MemSource};
-use desk_commands::{Ended, run_board, run_export, run_init, run_script, run_upgrade};
+use desk_program::desk_within;
 use desk_traits::{MemDisk, SetClock};
-use hazard_types::{List, Minute, Oom, Text};
+use hazard_types::{List, Oom, Text};
 use std::alloc::Global;
+use worked_lines::words_of;
 
 /// The largest number of bytes of an input.
 const LIMIT: usize = 100_000;
 
 /// The largest number of bytes that a read returns.
 const PIECE: usize = 4096;
-
-/// A command of the desk.
-#[derive(Clone, Copy, Debug)]
-pub enum Command {
-    Init,
-    Script,
-    Export,
-    Upgrade,
-    /// The board at a minute, or at the clock's reading.
-    Board(Option<Minute>),
-}
 
 /// The faults of a disk and an output.
 #[derive(Clone, Copy, Debug)]
@@ -82,43 +72,34 @@ fn clock_of(alloc: Global, readings: &List<i64>) -> Result<SetClock, Oom> {
     SetClock::new(readings)
 }
 
-/// Runs a command.
-fn ended(
-    alloc: Global,
-    command: &Command,
-    source: &mut MemSource,
-    sink: &mut MemSink,
-    disk: MemDisk,
-    clock: &mut SetClock,
-) -> Ended<MemDisk> {
-    match command {
-        Command::Init => run_init(alloc, source, sink, disk),
-        Command::Script => run_script(alloc, LIMIT, source, sink, disk, clock),
-        Command::Export => run_export(alloc, sink, disk),
-        Command::Upgrade => run_upgrade(alloc, sink, disk),
-        Command::Board(minute) => run_board(alloc, *minute, sink, disk, clock),
-    }
-}
-
-/// Runs a command over a disk with a file and these faults.
+/// Runs the command of these words over a disk with a file and these faults.
 ///
 /// # Errors
 ///
 /// Out of memory.
 pub fn run_command(
     alloc: Global,
-    command: &Command,
+    command: &str,
     given: &Given,
     file: &[u8],
     faults: &Faults,
 ) -> Result<Run, Oom> {
+    let words = words_of(alloc, command)?;
     let none = List::new(alloc);
     let mut source = MemSource::new(alloc, given.input.as_slice(), PIECE, &none)?;
     let unwritten = failing_calls(alloc, faults.unwritten)?;
     let mut sink = MemSink::new(alloc, &unwritten)?;
     let mut clock = clock_of(alloc, &given.readings)?;
     let disk = disk_of(alloc, file, faults)?;
-    let ended = ended(alloc, command, &mut source, &mut sink, disk, &mut clock);
+    let ended = desk_within(
+        alloc,
+        &words,
+        &mut source,
+        &mut sink,
+        disk,
+        &mut clock,
+        LIMIT,
+    );
     Ok(Run {
         status: ended.status,
         text: sink.taken().clone()?,
@@ -132,6 +113,6 @@ pub fn run_command(
 ///
 /// Out of memory.
 pub fn exported(alloc: Global, given: &Given, file: &[u8]) -> Result<Text, Oom> {
-    let run = run_command(alloc, &Command::Export, given, file, &NO_FAULTS)?;
+    let run = run_command(alloc, "export", given, file, &NO_FAULTS)?;
     Ok(run.text)
 }

@@ -1,14 +1,14 @@
 //! The script of an office.
-use crate::desk::answers::{run_answer, sweep_answer, unread};
+use crate::desk::answers::{run_answer, sweep_answer};
 use crate::desk::cuts::cuts;
 use crate::desk::files::{older_journal, record_text, with_byte, with_record};
-use crate::desk::runs::{Command, Faults, Given, NO_FAULTS, Run, run_command};
+use crate::desk::runs::{Faults, Given, NO_FAULTS, Run, run_command};
 use crate::desk::steps::{Cutting, Ending, Step, Tried, reading_of, step_of};
 use crate::desk::sweeps::sweep;
 use desk_traits::MemDisk;
-use hazard_types::{List, Oom, Text};
+use hazard_types::{List, Minute, Oom, Text, stamp};
 use std::alloc::Global;
-use worked_lines::Work;
+use worked_lines::{Work, add_line, text_of, unread};
 
 /// The settings, the file, the input and the readings of the clock for the next run, and its
 /// faults.
@@ -32,12 +32,12 @@ fn readings_of(alloc: Global, words: &str) -> Result<Option<List<i64>>, Oom> {
     Ok(Some(readings))
 }
 
-/// Returns the bytes of a line end.
-fn ending_bytes(ending: Ending) -> &'static [u8] {
+/// Returns a line end.
+fn ending_of(ending: Ending) -> &'static str {
     match ending {
-        Ending::Feed => b"\n",
-        Ending::ReturnAndFeed => b"\r\n",
-        Ending::Nothing => b"",
+        Ending::Feed => "\n",
+        Ending::ReturnAndFeed => "\r\n",
+        Ending::Nothing => "",
     }
 }
 
@@ -72,14 +72,12 @@ impl Script {
 
     /// Appends a line to the settings.
     fn add_setting(&mut self, line: &str) -> Result<(), Oom> {
-        self.settings.extend(line.as_bytes())?;
-        self.settings.push(b'\n')
+        add_line(&mut self.settings, line, "\n")
     }
 
     /// Appends a line to the input.
     fn ask(&mut self, line: &str, ending: Ending) -> Result<(), Oom> {
-        self.given.input.extend(line.as_bytes())?;
-        self.given.input.extend(ending_bytes(ending))
+        add_line(&mut self.given.input, line, ending_of(ending))
     }
 
     /// Sets the readings of the clock, and returns whether the words are readings.
@@ -94,35 +92,39 @@ impl Script {
     }
 
     /// Runs a command over the input; `init` over the settings.
-    fn run_over(&self, alloc: Global, command: &Command) -> Result<Run, Oom> {
+    fn run_over(&self, alloc: Global, command: &str) -> Result<Run, Oom> {
         let file = self.file.as_slice();
-        match command {
-            Command::Init => {
-                let given = Given {
-                    input: self.settings.clone()?,
-                    readings: self.given.readings.clone()?,
-                };
-                run_command(alloc, command, &given, file, &self.faults)
-            }
-            Command::Script | Command::Export | Command::Upgrade | Command::Board(_) => {
-                run_command(alloc, command, &self.given, file, &self.faults)
-            }
+        if command == "init" {
+            let given = Given {
+                input: self.settings.clone()?,
+                readings: self.given.readings.clone()?,
+            };
+            return run_command(alloc, command, &given, file, &self.faults);
         }
+        run_command(alloc, command, &self.given, file, &self.faults)
     }
 
     /// Runs a command, keeps the file that it leaves, and returns what is printed. The faults are
     /// then removed; `init` and `script` empty the input too.
-    fn run_step(&mut self, alloc: Global, command: &Command) -> Result<String, Oom> {
+    fn run_step(&mut self, alloc: Global, command: &str) -> Result<String, Oom> {
         let Run { status, text, disk } = self.run_over(alloc, command)?;
         let crashes = self.faults.stop.is_some() || self.faults.pick.is_some();
         self.faults = NO_FAULTS;
-        if matches!(command, Command::Init | Command::Script) {
+        if matches!(command, "init" | "script") {
             self.given.input = List::new(alloc);
         }
         let new = file_behind(disk, crashes)?;
         let answer = run_answer(alloc, &text, status, self.file.as_slice(), new.as_slice())?;
         self.file = new;
         Ok(answer)
+    }
+
+    /// Runs the command that writes the board at a minute.
+    fn board_step(&mut self, alloc: Global, minute: Minute) -> Result<String, Oom> {
+        let stamp = stamp(minute);
+        let at = text_of(&stamp);
+        let command = format!(in alloc; "board --at {at}")?;
+        self.run_step(alloc, command.as_str())
     }
 
     /// Returns the counts of a sweep over the input and the file.
@@ -205,6 +207,7 @@ impl Work for Script {
         }
         match &step {
             Step::Run(command) => self.run_step(alloc, command),
+            Step::Board(minute) => self.board_step(alloc, *minute),
             Step::Sweep(tried, calls) => self.sweep_step(alloc, *tried, *calls),
             Step::Cuts(cutting) => self.cuts_step(alloc, *cutting),
             Step::Record => record_text(alloc, self.file.as_slice()),

@@ -1,6 +1,6 @@
 //! The steps of a script of an office, one a line.
-use crate::desk::runs::Command;
-use hazard_types::read_stamp;
+use hazard_types::{Minute, read_stamp};
+use worked_lines::is_remark;
 
 /// The end of a line of the input.
 #[derive(Clone, Copy, Debug)]
@@ -66,8 +66,10 @@ pub enum Step<'a> {
     Stop(u64),
     /// Sets what a crash leaves of the next run's writes.
     Pick(u64),
-    /// Runs a command.
-    Run(Command),
+    /// Runs the command of these words.
+    Run(&'a str),
+    /// Runs the command that writes the board at a minute.
+    Board(Minute),
     /// Runs a sweep over the first calls of a disk, this many.
     Sweep(Tried, u8),
     /// Runs over each beginning of what is cut.
@@ -105,11 +107,7 @@ fn bare_step(word: &str) -> Option<Step<'_>> {
         "record" => Step::Record,
         "cuts" => Step::Cuts(Cutting::File),
         "cuts settings" => Step::Cuts(Cutting::Settings),
-        "init" => Step::Run(Command::Init),
-        "script" => Step::Run(Command::Script),
-        "export" => Step::Run(Command::Export),
-        "upgrade" => Step::Run(Command::Upgrade),
-        "board" => Step::Run(Command::Board(None)),
+        "init" | "script" | "export" | "upgrade" | "board" => Step::Run(word),
         _ => return None,
     };
     Some(step)
@@ -118,7 +116,7 @@ fn bare_step(word: &str) -> Option<Step<'_>> {
 /// Returns the step of the board at a stamp, or `None` if the word is no stamp.
 fn board_step(stamp: &str) -> Option<Step<'_>> {
     let minute = read_stamp(stamp.as_bytes())?;
-    Some(Step::Run(Command::Board(Some(minute))))
+    Some(Step::Board(minute))
 }
 
 /// Returns the step of the words `CALLS`, `twice CALLS` or `upgrade CALLS`, or `None` if they are
@@ -173,7 +171,7 @@ fn worded_step(line: &str) -> Option<Step<'_>> {
 
 /// Returns the step of a line. An empty line and one that begins with `#` are remarks.
 pub fn step_of(line: &str) -> Step<'_> {
-    if line.is_empty() || line.starts_with('#') {
+    if is_remark(line) {
         return Step::Remark;
     }
     if let Some(step) = bare_step(line) {

@@ -1,7 +1,7 @@
 //! Sweeps: runs in which one call of a disk fails, or is the last that may succeed, for each call
 //! in turn and for several states that a crash may leave.
 use crate::desk::files::records_of;
-use crate::desk::runs::{Command, Faults, Given, NO_FAULTS, Run, exported, run_command};
+use crate::desk::runs::{Faults, Given, NO_FAULTS, Run, exported, run_command};
 use crate::desk::steps::Tried;
 use hazard_types::{List, Oom, Text};
 use std::alloc::Global;
@@ -64,7 +64,7 @@ struct Wanted<'a> {
 
 /// Returns the outcome of an input over a disk without faults.
 fn outcome_of(alloc: Global, given: &Given, file: &[u8]) -> Result<Outcome, Oom> {
-    let done = run_command(alloc, &Command::Script, given, file, &NO_FAULTS)?;
+    let done = run_command(alloc, "script", given, file, &NO_FAULTS)?;
     let products = exported(alloc, given, done.disk.file().as_slice())?;
     Ok(Outcome {
         status: done.status,
@@ -123,7 +123,7 @@ fn answers_are_kept(
     left: &[u8],
 ) -> Result<bool, Oom> {
     let apart = undisturbed(alloc, wanted.given, answers)?;
-    let run = run_command(alloc, &Command::Script, &apart, wanted.file, &NO_FAULTS)?;
+    let run = run_command(alloc, "script", &apart, wanted.file, &NO_FAULTS)?;
     let told = without_faults(alloc, answers)?;
     let kept = left.starts_with(records_of(run.disk.file().as_slice()));
     Ok(told.as_slice() == run.text.as_slice() && kept)
@@ -140,7 +140,7 @@ fn answers_of(status: u8, text: &Text) -> &str {
 /// Whether an input that meets these faults, and then a crash, keeps what was answered, and has the
 /// outcome of a run without faults if it is sent again.
 fn input_survives(alloc: Global, wanted: &Wanted<'_>, faults: &Faults) -> Result<bool, Oom> {
-    let first = run_command(alloc, &Command::Script, wanted.given, wanted.file, faults)?;
+    let first = run_command(alloc, "script", wanted.given, wanted.file, faults)?;
     let Run { status, text, disk } = first;
     let fair = is_fair(status);
     let left = disk.crashed()?;
@@ -187,7 +187,7 @@ fn faults_at(call: u64, stops: bool, pick: u64) -> Faults {
 /// Whether the products after an upgrade that meets these faults, and then a crash, are those
 /// before it.
 fn upgrade_survives(alloc: Global, wanted: &Wanted<'_>, faults: &Faults) -> Result<bool, Oom> {
-    let first = run_command(alloc, &Command::Upgrade, wanted.given, wanted.file, faults)?;
+    let first = run_command(alloc, "upgrade", wanted.given, wanted.file, faults)?;
     let fair = is_fair(first.status);
     let left = first.disk.crashed()?;
     let products = exported(alloc, wanted.given, left.as_slice())?;
@@ -259,7 +259,7 @@ fn lines_survive(
     twice: &Given,
     faults: &Faults,
 ) -> Result<bool, Oom> {
-    let run = run_command(alloc, &Command::Script, twice, wanted.file, faults)?;
+    let run = run_command(alloc, "script", twice, wanted.file, faults)?;
     if run.status != DONE {
         return Ok(run.status == DISK_FAULT);
     }

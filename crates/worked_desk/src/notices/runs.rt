@@ -1,30 +1,12 @@
 //! Runs of the notices over a source and a sink in memory.
+use crate::streams::Run;
 use byte_streams::{MemSink, MemSource};
-use county_notices::run_notices;
-use hazard_types::{List, Oom, Text};
+use county_notices::CountyNotices;
+use hazard_types::{Oom, Text};
 use program_ends::LIMIT;
+use program_outside::Program;
 use std::alloc::Global;
-use worked_lines::words_of;
-
-/// How an input comes, and which calls fail.
-#[derive(Drop)]
-pub struct Given {
-    /// The largest number of bytes that a read returns.
-    pub piece: usize,
-    /// The largest number of bytes of the input.
-    pub limit: usize,
-    /// The numbers of the reads that fail.
-    pub bad_reads: List<u64>,
-    /// The numbers of the writes that fail.
-    pub bad_writes: List<u64>,
-}
-
-/// How a run ended: its exit status, and what it wrote.
-#[derive(Drop)]
-pub struct Run {
-    pub status: u8,
-    pub text: Text,
-}
+use worked_lines::{Given, words_of};
 
 /// Writes the notices of an input, with the words of a line as arguments.
 ///
@@ -37,7 +19,7 @@ pub fn run_words(alloc: Global, line: &str, input: &Text, given: &Given) -> Resu
     let mut source = MemSource::new(alloc, input.as_slice(), piece, &given.bad_reads)?;
     let mut sink = MemSink::new(alloc, &given.bad_writes)?;
     let limit = given.limit.min(LIMIT);
-    let status = run_notices(alloc, &words, &mut source, &mut sink, limit);
+    let status = CountyNotices::run(alloc, &words, limit, &mut source, &mut sink);
     let text = sink.taken().clone()?;
     Ok(Run { status, text })
 }

@@ -1,120 +1,47 @@
 //! The script of county notices.
 use crate::notices::lines::{line_of_counties, numbered_line};
-use crate::notices::runs::{Given, run_words};
+use crate::notices::runs::run_words;
 use crate::notices::steps::{Step, step_of};
-use hazard_types::{List, Oom, Text};
-use program_ends::LIMIT;
+use crate::streams::{Run, Runs, Stream};
+use hazard_types::Oom;
 use std::alloc::Global;
-use worked_lines::Work;
+use worked_lines::add_line;
 
-/// The largest number of bytes that a read returns, unless the script sets it.
-const PIECE: usize = 4096;
+/// The runs of notices.
+#[derive(Clone, Copy, Debug)]
+pub struct Notices;
 
-/// The input of the next run, and what is set for it.
-#[derive(Drop)]
-pub struct Script {
-    input: Text,
-    given: Given,
+/// Appends a line of the pattern for each number from 1 to `last`.
+fn add_each(alloc: Global, stream: &mut Stream, last: u16, pattern: &str) -> Result<(), Oom> {
+    for before in 0..last {
+        let line = numbered_line(alloc, pattern, before + 1)?;
+        add_line(&mut stream.input, line.as_str(), "\n")?;
+    }
+    Ok(())
 }
 
-/// Returns what holds for a run unless the script sets it.
-fn nothing_given(alloc: Global) -> Given {
-    Given {
-        piece: PIECE,
-        limit: LIMIT,
-        bad_reads: List::new(alloc),
-        bad_writes: List::new(alloc),
-    }
-}
-
-/// Returns the last line of a text.
-fn last_line(text: &str) -> &str {
-    let whole = text.strip_suffix('\n').unwrap_or(text);
-    match whole.rsplit_once('\n') {
-        Some((_before, last)) => last,
-        None => whole,
-    }
-}
-
-impl Script {
-    pub fn new(alloc: Global) -> Self {
-        Script {
-            input: List::new(alloc),
-            given: nothing_given(alloc),
-        }
+impl Runs for Notices {
+    /// Writes the notices of a stream, with these words as arguments.
+    fn run(&mut self, alloc: Global, words: &str, stream: &Stream) -> Result<Run, Oom> {
+        run_words(alloc, words, &stream.input, &stream.given)
     }
 
-    /// Appends a line to the input, with this line end.
-    fn add_line(&mut self, line: &str, end: &str) -> Result<(), Oom> {
-        self.input.extend(line.as_bytes())?;
-        self.input.extend(end.as_bytes())
+    /// Returns the number of bytes.
+    fn before_last(&self, alloc: Global, bytes: usize) -> Result<String, Oom> {
+        Ok(format!(in alloc; "{bytes} bytes\n")?)
     }
 
-    /// Appends `count` letters to the input.
-    fn add_letters(&mut self, count: usize) -> Result<(), Oom> {
-        for _ in 0..count {
-            self.input.push(b'a')?;
-        }
-        Ok(())
-    }
-
-    /// Appends a line of the pattern for each number from 1 to `last`.
-    fn add_each(&mut self, alloc: Global, last: u16, pattern: &str) -> Result<(), Oom> {
-        for before in 0..last {
-            let line = numbered_line(alloc, pattern, before + 1)?;
-            self.add_line(line.as_str(), "\n")?;
-        }
-        Ok(())
-    }
-
-    /// Runs with these words, and returns what it wrote, or the number of bytes and the last line,
-    /// and the exit status. The input and what was set are then removed.
-    fn run_step(&mut self, alloc: Global, words: &str, shows_all: bool) -> Result<String, Oom> {
-        let run = run_words(alloc, words, &self.input, &self.given)?;
-        self.input = List::new(alloc);
-        self.given = nothing_given(alloc);
-        let text = String::from_utf8_lossy(alloc, run.text.as_slice())?;
-        let status = run.status;
-        if shows_all {
-            return Ok(format!(in alloc; "{text}status {status}\n")?);
-        }
-        let bytes = run.text.len();
-        let last = last_line(text.as_str());
-        Ok(format!(in alloc; "{bytes} bytes\n{last}\nstatus {status}\n")?)
-    }
-
-    /// Does a step that prints nothing, and returns whether the step is one.
-    fn prepare(&mut self, alloc: Global, step: &Step<'_>) -> Result<bool, Oom> {
-        match step {
-            Step::Remark => {}
-            Step::Line(line, end) => self.add_line(line, end)?,
-            Step::Letters(count) => self.add_letters(*count)?,
-            Step::Each(last, pattern) => self.add_each(alloc, *last, pattern)?,
-            Step::Counties(last, pattern) => {
-                let line = line_of_counties(alloc, pattern, *last)?;
-                self.add_line(line.as_str(), "\n")?;
+    /// Does the step of a line that appends lines of a pattern, and returns that nothing is printed
+    /// for it, or `None` if the line is no such step.
+    fn step(&mut self, alloc: Global, on: &mut Stream, line: &str) -> Result<Option<String>, Oom> {
+        match step_of(line) {
+            Some(Step::Each(last, pattern)) => add_each(alloc, on, last, pattern)?,
+            Some(Step::Counties(last, pattern)) => {
+                let line = line_of_counties(alloc, pattern, last)?;
+                add_line(&mut on.input, line.as_str(), "\n")?;
             }
-            Step::Piece(size) => self.given.piece = *size,
-            Step::Limit(most) => self.given.limit = *most,
-            Step::BadRead(call) => self.given.bad_reads.push(*call)?,
-            Step::BadWrite(call) => self.given.bad_writes.push(*call)?,
-            Step::Run(_) | Step::Last(_) | Step::Unread => return Ok(false),
+            None => return Ok(None),
         }
-        Ok(true)
-    }
-}
-
-impl Work for Script {
-    /// Returns what is printed for a line.
-    fn work(&mut self, alloc: Global, line: &str) -> Result<String, Oom> {
-        let step = step_of(line);
-        if self.prepare(alloc, &step)? {
-            return Ok(String::new(alloc));
-        }
-        match &step {
-            Step::Run(words) => self.run_step(alloc, words, true),
-            Step::Last(words) => self.run_step(alloc, words, false),
-            _ => Ok(format!(in alloc; "unread: {line}\n")?),
-        }
+        Ok(Some(String::new(alloc)))
     }
 }

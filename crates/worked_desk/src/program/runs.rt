@@ -1,38 +1,18 @@
 //! Runs of the program over a source, a sink and a disk in memory.
+use crate::streams::Run;
 use byte_streams::{MemSink, MemSource, Sink, Source, SureSink, SureSource};
 use desk_program::desk_within;
 use desk_traits::{Disk, SetClock, SureDisk};
 use hazard_types::{List, Oom, Text};
 use program_ends::LIMIT;
 use std::alloc::Global;
-use worked_lines::words_of;
+use worked_lines::{Given, words_of};
 
 /// The number of bytes that a disk has room for.
 const ROOM: usize = 200_000;
 
 /// The reading of the clock: 2018-01-03 15:30 UTC, in minutes since 2000-01-01 00:00 UTC.
 const MINUTE: i64 = 9_471_810;
-
-/// How an input comes, and which calls fail.
-#[derive(Drop)]
-pub struct Given {
-    /// The largest number of bytes that a read returns.
-    pub piece: usize,
-    /// The largest number of bytes of the input.
-    pub limit: usize,
-    /// The numbers of the reads that fail.
-    pub bad_reads: List<u64>,
-    /// The numbers of the writes that fail.
-    pub bad_writes: List<u64>,
-}
-
-/// How a run ended: its exit status, what it wrote, and its disk.
-#[derive(Drop)]
-pub struct Run {
-    pub status: u8,
-    pub text: Text,
-    pub disk: SureDisk,
-}
 
 /// How a run ended: its exit status, and its disk.
 #[derive(Drop)]
@@ -96,7 +76,8 @@ pub fn run_surely(alloc: Global, line: &str, input: &Text, disk: SureDisk) -> Re
     end_of(alloc, line, &mut source, &mut SureSink, disk, LIMIT)
 }
 
-/// Runs the program with the words of a line as arguments.
+/// Runs the program with the words of a line as arguments, and returns how the run ended, and its
+/// disk.
 ///
 /// # Errors
 ///
@@ -107,7 +88,7 @@ pub fn run_words(
     input: &Text,
     given: &Given,
     disk: SureDisk,
-) -> Result<Run, Oom> {
+) -> Result<(Run, SureDisk), Oom> {
     let mut source = MemSource::new(
         alloc,
         input.as_slice(),
@@ -117,9 +98,9 @@ pub fn run_words(
     let mut sink = MemSink::new(alloc, &given.bad_writes)?;
     let ended = end_of(alloc, line, &mut source, &mut sink, disk, given.limit)?;
     let text = sink.taken().clone()?;
-    Ok(Run {
+    let run = Run {
         status: ended.status,
         text,
-        disk: ended.disk,
-    })
+    };
+    Ok((run, ended.disk))
 }

@@ -1,10 +1,12 @@
 //! Sweeps: runs in which one read of the input, or one write of the output, fails, for each call in
 //! turn.
-use crate::program::runs::{Given, Run, copy_of, run_words};
+use crate::program::runs::{copy_of, run_words};
+use crate::streams::Run;
 use desk_traits::SureDisk;
 use hazard_types::{List, Oom, Text};
 use program_ends::LIMIT;
 use std::alloc::Global;
+use worked_lines::Given;
 
 /// Which calls fail in turn.
 #[derive(Clone, Copy, Debug)]
@@ -76,14 +78,14 @@ pub fn sweep(
     disk: &mut SureDisk,
 ) -> Result<Tally, Oom> {
     let none = failing.given(alloc, 0)?;
-    let whole = run_words(alloc, words, input, &none, copy_of(alloc, disk)?)?;
+    let (whole, _disk) = run_words(alloc, words, input, &none, copy_of(alloc, disk)?)?;
     let mut tally = Tally {
         ended: 0,
         differ: 0,
     };
     for call in 1..=calls {
         let given = failing.given(alloc, call)?;
-        let run = run_words(alloc, words, input, &given, copy_of(alloc, disk)?)?;
+        let (run, _disk) = run_words(alloc, words, input, &given, copy_of(alloc, disk)?)?;
         tally.count(failing, &run, &whole);
     }
     Ok(tally)

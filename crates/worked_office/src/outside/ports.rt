@@ -1,5 +1,5 @@
 //! Rows of ports with their doors, and of dialers.
-ghost use Rattle.std.specs.Prelude.{◌≡◌, ◌≤◌, ◌<◌, ◌+◌, ◌^◌, [], All, length, IfOk, IfSome, OnOk};
+ghost use Rattle.std.specs.Prelude.{◌≡◌, ◌≤◌, [], All, length, IfOk, IfSome, OnOk};
 ghost use Rattle.desk_links.specs.LinkMemory.{IsUntouched, IsIdle, all_links};
 
 use crate::outside::words::{add, add_bytes, bytes_of, numbers_of, unread};
@@ -48,45 +48,33 @@ fn failing_of(alloc: Global, words: &str) -> Result<List<List<u64>>, Oom> {
     Ok(lists)
 }
 
-/// Reads a link once, at most eight bytes, and writes them on it. Appends the bytes, or `silent`.
-fn echo<L: Link>(link: &mut L, answer: &mut String) -> Result<(), Oom> {
+/// Reads a link once, at most eight bytes, writes them on it, and returns it. Appends the bytes, or
+/// `silent`.
+fn echoed<L: Link + Drop>(mut link: L, answer: &mut String) -> Result<L, Oom> {
     let mut buffer = [0; 8];
     match link.read(&mut buffer) {
         Ok(count) => {
             add(answer, "")?;
             add_bytes(answer, &buffer[..count])?;
-            let _ = write_whole(link, &buffer[..count]);
-            Ok(())
+            let _ = write_whole(&mut link, &buffer[..count]);
         }
-        Err(_) => add(answer, "silent"),
+        Err(_) => add(answer, "silent")?,
     }
+    Ok(link)
 }
 
-/// Accepts a link, echoes what it has, and returns it to the door. Appends the bytes, or `failed`.
-fn visit(door: &mut MemDoor, answer: &mut String) -> Result<(), Oom>
-    requires none_out { door.old.given ≡ length door.old.back }
-    requires few { length door.old.back < 2 ^ 32 }
-    ensures none_out { OnOk result (door.new.given ≡ length door.new.back) }
-    ensures few { OnOk result (length door.new.back ≤ length door.old.back + 1) }
-{
-    match door.accept() {
-        Ok(mut link) => {
-            echo(&mut link, answer)?;
-            door.return_link(link);
-            Ok(())
-        }
-        Err(_) => add(answer, "failed"),
-    }
-}
-
-/// Visits a door `visits` times.
+/// Accepts a link `visits` times, echoes what it has, and returns it to the door. Appends the bytes,
+/// or `failed`.
 fn visit_all(door: &mut MemDoor, visits: u8, answer: &mut String) -> Result<(), Oom>
     requires { IsIdle door.old }
     ensures none_out { OnOk result (door.new.given ≡ length door.new.back) }
     ensures few { OnOk result (length door.new.back ≤ 255) }
 {
     for _ in 0..visits {
-        visit(door, answer)?;
+        match door.accept() {
+            Ok(link) => door.return_link(echoed(link, answer)?),
+            Err(_) => add(answer, "failed")?,
+        }
     }
     Ok(())
 }
@@ -171,29 +159,16 @@ pub fn port_row(alloc: Global, words: &str, visits: &str) -> Result<String, Oom>
     Ok(answer)
 }
 
-/// Dials a link, echoes what it has, and returns it to the dialer. Appends the bytes, or `failed`.
-fn dial_once(dialer: &mut MemDialer, answer: &mut String) -> Result<(), Oom>
-    requires none_out { dialer.old.given ≡ length dialer.old.back }
-    requires few { length dialer.old.back < 2 ^ 32 }
-    ensures none_out { OnOk result (dialer.new.given ≡ length dialer.new.back) }
-    ensures few { OnOk result (length dialer.new.back ≤ length dialer.old.back + 1) }
-{
-    match dialer.dial() {
-        Ok(mut link) => {
-            echo(&mut link, answer)?;
-            dialer.return_link(link);
-            Ok(())
-        }
-        Err(_) => add(answer, "failed"),
-    }
-}
-
-/// Dials `dials` times.
+/// Dials a link `dials` times, echoes what it has, and returns it to the dialer. Appends the bytes,
+/// or `failed`.
 fn dial_all(dialer: &mut MemDialer, dials: u8, answer: &mut String) -> Result<(), Oom>
     requires { IsIdle dialer.old }
 {
     for _ in 0..dials {
-        dial_once(dialer, answer)?;
+        match dialer.dial() {
+            Ok(link) => dialer.return_link(echoed(link, answer)?),
+            Err(_) => add(answer, "failed")?,
+        }
     }
     Ok(())
 }

@@ -1,30 +1,19 @@
 //! Runs of the archive's report and of the statistics, over a source and a sink in memory.
-use archive_report::archive_within;
+use archive_report::Archive;
 use byte_streams::{MemSink, MemSource};
 use hazard_types::{List, Oom, Text};
 use program_ends::LIMIT;
+use program_outside::Program;
 use sha2::{Digest, Sha256};
-use stats_report::run_stats;
+use stats_report::Statistics;
 use std::alloc::Global;
+use worked_lines::Given;
 
 /// What is written of an archive.
 #[derive(Clone, Copy, Debug)]
 pub enum Telling {
     Report,
     Stats,
-}
-
-/// How the archive comes, and which calls fail.
-#[derive(Drop)]
-pub struct Given {
-    /// The largest number of bytes that a read returns.
-    pub piece: usize,
-    /// The largest number of bytes of the archive.
-    pub limit: usize,
-    /// The numbers of the reads that fail.
-    pub bad_reads: List<u64>,
-    /// The numbers of the writes that fail.
-    pub bad_writes: List<u64>,
 }
 
 /// How a run ended: its exit status, and the text that it wrote.
@@ -71,8 +60,8 @@ pub fn run_telling(
     let mut sink = MemSink::new(alloc, &given.bad_writes)?;
     let limit = given.limit.min(LIMIT);
     let status = match telling {
-        Telling::Report => archive_within(alloc, words, &mut source, &mut sink, limit),
-        Telling::Stats => run_stats(alloc, words, &mut source, &mut sink, limit),
+        Telling::Report => Archive::run(alloc, words, limit, &mut source, &mut sink),
+        Telling::Stats => Statistics::run(alloc, words, limit, &mut source, &mut sink),
     };
     let text = sink.taken().clone()?;
     Ok(Run { status, text })
@@ -81,12 +70,8 @@ pub fn run_telling(
 /// Runs the report of an archive that comes in pieces of at most `piece` bytes, where no call
 /// fails.
 fn whole_report(alloc: Global, words: &List<Text>, input: &[u8], piece: usize) -> Result<Run, Oom> {
-    let given = Given {
-        piece,
-        limit: LIMIT,
-        bad_reads: List::new(alloc),
-        bad_writes: List::new(alloc),
-    };
+    let mut given = Given::new(alloc, LIMIT);
+    given.piece = piece;
     run_telling(alloc, Telling::Report, words, input, &given)
 }
 

@@ -1,10 +1,9 @@
 //! The steps of a script of archives, one a line.
+use worked_lines::{Setting, setting_of};
 
 /// A step of the script.
 #[derive(Clone, Copy, Debug)]
 pub enum Step<'a> {
-    /// Nothing is done or printed.
-    Remark,
     /// Appends a line to the archive, with CR, CR and LF.
     Line(&'a str),
     /// Appends the lines between bars.
@@ -17,14 +16,8 @@ pub enum Step<'a> {
     NoText,
     /// Appends the archive to itself.
     Again,
-    /// Sets the largest number of bytes that a read returns in the next run.
-    Piece(usize),
-    /// Sets the largest number of bytes of the archive in the next run.
-    Limit(usize),
-    /// Adds a read that fails in the next run.
-    BadRead(u64),
-    /// Adds a write that fails in the next run.
-    BadWrite(u64),
+    /// Sets what holds for the next run.
+    Set(Setting),
     /// Prints the report for these words.
     Report(&'a str),
     /// Prints the size and the digest of the report for these words.
@@ -35,8 +28,6 @@ pub enum Step<'a> {
     Stats(&'a str),
     /// Prints the tally of the reports of each beginning of the archive for these words.
     Cuts(&'a str),
-    /// The line is no step.
-    Unread,
 }
 
 /// Returns the step that is this whole line, or `None`.
@@ -51,16 +42,11 @@ fn bare_step(line: &str) -> Option<Step<'_>> {
     }
 }
 
-/// Returns the step of a word with a number, or `None`.
-fn numbered_step<'a>(word: &str, rest: &str) -> Option<Step<'a>> {
+/// Returns the step that sets something by a word with a number, or `None`.
+fn setting_step<'a>(word: &str, rest: &str) -> Option<Step<'a>> {
     let number = rest.parse::<u32>().ok()?;
-    match word {
-        "piece" => Some(Step::Piece(number as usize)),
-        "limit" => Some(Step::Limit(number as usize)),
-        "read" => Some(Step::BadRead(u64::from(number))),
-        "write" => Some(Step::BadWrite(u64::from(number))),
-        _ => None,
-    }
+    let setting = setting_of(word, number)?;
+    Some(Step::Set(setting))
 }
 
 /// Returns the step of the words `NUMBER LINE`, or `None` if they are not such words.
@@ -90,20 +76,14 @@ fn worded_step(line: &str) -> Option<Step<'_>> {
         "reader" => reader_step(rest),
         "stats" => Some(Step::Stats(rest)),
         "cuts" => Some(Step::Cuts(rest)),
-        _ => numbered_step(word, rest),
+        _ => setting_step(word, rest),
     }
 }
 
-/// Returns the step of a line. An empty line and one that begins with `#` are remarks.
-pub fn step_of(line: &str) -> Step<'_> {
-    if line.is_empty() || line.starts_with('#') {
-        return Step::Remark;
-    }
-    if let Some(step) = bare_step(line) {
-        return step;
-    }
-    match worded_step(line) {
-        Some(step) => step,
-        None => Step::Unread,
+/// Returns the step of a line, or `None` if the line is no step.
+pub fn step_of(line: &str) -> Option<Step<'_>> {
+    match bare_step(line) {
+        Some(step) => Some(step),
+        None => worded_step(line),
     }
 }

@@ -5,12 +5,7 @@ ghost use Rattle.std.specs.List.{AllByRecursion};
 ghost use Rattle.hazard_types.specs.declared.or.Or.TheVariants.{No};
 ghost use Rattle.office_types.specs.declared.refusal.Refusal.{Refusal as Refused};
 ghost use Rattle.event_life.specs.Products.{rows_after};
-ghost use Rattle.event_life.specs.Shown.{shown_at};
 ghost use Rattle.event_numbers.specs.Counts.{DrawsAll};
-ghost use Rattle.hazard_board.specs.Board.{live_in};
-ghost use Rattle.hazard_board.specs.Clashes.{least_clash};
-ghost use Rattle.hazard_board.specs.Standing.{AreStandingOf};
-ghost use Rattle.hazard_board.specs.Taken.{rows_taken};
 ghost use Rattle.action_planner.specs.Offences.{broken};
 ghost use Rattle.action_planner.specs.Placed.{placed, opened};
 ghost use Rattle.action_planner.specs.Plans.{IsPlan};
@@ -27,8 +22,8 @@ use action_planner::{
 };
 use event_life::rows_stay_in_order;
 use event_numbers::Numbers;
-use hazard_board::{Board, Standing, openings};
-use hazard_types::{Clash, Hazard, Line, List, Minute, Oom, Or, Row, Zone};
+use hazard_board::{Board, openings};
+use hazard_types::{List, Minute, Oom, Or};
 use office_types::{Draft, EventTexts, Plan, Refusal, Sent};
 use std::alloc::Global;
 use std::marker::Model;
@@ -177,9 +172,8 @@ impl Day {
         opened_events_are_drawn_in_order();
         plans_keep_what_stands();
         planned_lines_are_distinct();
-        lines_have_four_digits();
         rows_stay_in_order();
-        let plan = plan(alloc, &self.board, &self.numbers, draft, t)?;
+        let plan = self.plan(alloc, draft, t)?;
         self.board.reserve(openings(plan.lines.as_slice()))?;
         self.numbers.reserve(plan.opened.len())?;
         let sent = sent_of(alloc, self.products.len(), &plan, t, None)?;
@@ -248,50 +242,10 @@ impl Day {
         Ok(correction)
     }
 
-    /// Returns the rows that are live at `t`, by zone, then event.
-    ///
-    /// # Errors
-    ///
-    /// Out of memory.
-    pub fn shown(&self, alloc: Global, t: Minute) -> Result<List<Row>, Oom>
-        ensures { IfOk result (λ rows. rows ≡ shown_at t self.now.rows) }
+    /// Returns the board with the rows of the products that were sent.
+    pub fn board(&self) -> &Board
+        ensures { result.now.rows ≡ self.now.rows }
     {
-        self.board.shown(alloc, t)
-    }
-
-    /// Returns the rows of a zone that are live at `t`, by event.
-    ///
-    /// # Errors
-    ///
-    /// Out of memory.
-    pub fn rows_of(&self, alloc: Global, z: Zone, t: Minute) -> Result<List<Row>, Oom>
-        ensures { IfOk result (λ rows. rows ≡ live_in z t self.now.rows) }
-    {
-        self.board.rows_of(alloc, z, t)
-    }
-
-    /// Returns the least clash of the rows after lines, or `None`. Each line leaves its row if the
-    /// life that it meets allows it.
-    ///
-    /// # Errors
-    ///
-    /// Out of memory.
-    pub fn conflict(
-        &self,
-        alloc: Global,
-        lines: &List<Line>,
-        t: Minute,
-    ) -> Result<Option<Clash>, Oom>
-        ensures { IfOk result (λ found.
-            found ≡ least_clash t (rows_taken self.now.rows t lines.now)) }
-    {
-        self.board.conflict(alloc, lines, t)
-    }
-
-    /// Returns the events of a hazard that have an unended row, by number, then year.
-    pub fn standing(&self, h: Hazard) -> &[Standing]
-        ensures { AreStandingOf h self.now.rows result.now }
-    {
-        self.board.standing(h)
+        &self.board
     }
 }

@@ -248,19 +248,19 @@ impl Script {
 
     /// Returns the rows that are live at a minute.
     fn board(&self, alloc: Global, minute: Minute) -> Result<String, Oom> {
-        let rows = self.day.shown(alloc, minute)?;
+        let rows = self.day.board().shown(alloc, minute)?;
         Ok(board_text(alloc, rows.as_slice())?)
     }
 
     /// Returns the rows of a zone that are live at a minute.
     fn zone(&self, alloc: Global, zone: Zone, minute: Minute) -> Result<String, Oom> {
-        let rows = self.day.rows_of(alloc, zone, minute)?;
+        let rows = self.day.board().rows_of(alloc, zone, minute)?;
         Ok(board_text(alloc, rows.as_slice())?)
     }
 
     /// Returns the least clash of the rows after lines.
     fn clash(&self, alloc: Global, lines: &List<Line>, minute: Minute) -> Result<String, Oom> {
-        let found = self.day.conflict(alloc, lines, minute)?;
+        let found = self.day.board().conflict(alloc, lines, minute)?;
         Ok(clash_text(alloc, &found)?)
     }
 
@@ -291,7 +291,7 @@ impl Script {
             Step::Board(minute) => self.board(alloc, minute),
             Step::Zone(zone, minute) => self.zone(alloc, zone, minute),
             Step::Clash(lines, minute) => self.clash(alloc, &lines, minute),
-            Step::Standing(hazard) => Ok(standing_text(alloc, self.day.standing(hazard))?),
+            Step::Standing(hazard) => Ok(standing_text(alloc, self.day.board().standing(hazard))?),
             Step::Fill(hazard, count, from) => self.fill(alloc, &hazard, count, from),
         }
     }

@@ -99,22 +99,23 @@ fn flood_of(word: &str) -> Option<Flood> {
 /// Returns the put of the words `HAZARD-OR-EVENT ZONES BEGIN END`, then `flood` or `flood=SITE` for
 /// flood values, if any, then `what=WORD` for a text, if any.
 fn put_of(alloc: Global, words: &mut SplitWhitespace<'_>) -> Result<Intent, Or<Unread>> {
-    let target = known(target_of(next_word(words)?))?;
-    let zones = zones_of(alloc, next_word(words)?)?;
-    let begin = known(begin_of(next_word(words)?))?;
-    let end = known(end_of(next_word(words)?))?;
+    let mut put = PutPart {
+        target: known(target_of(next_word(words)?))?,
+        zones: zones_of(alloc, next_word(words)?)?,
+        begin: known(begin_of(next_word(words)?))?,
+        end: known(end_of(next_word(words)?))?,
+        flood: None,
+        texts: no_texts(alloc),
+    };
     let word = words.next();
-    let flood = word.and_then(flood_of);
-    let said = if flood.is_some() { words.next() } else { word };
-    let texts = said_of(alloc, said)?;
-    Ok(Intent::Put(PutPart {
-        target,
-        zones,
-        begin,
-        end,
-        flood,
-        texts,
-    }))
+    put.flood = word.and_then(flood_of);
+    let said = if put.flood.is_some() {
+        words.next()
+    } else {
+        word
+    };
+    put.texts = said_of(alloc, said)?;
+    Ok(Intent::Put(put))
 }
 
 /// Returns the part of the words `EVENT ZONES`, then `what=WORD` for a text, if any.

@@ -1,4 +1,5 @@
 //! HTTP answers, as the bytes that come on a link.
+use crate::plain::add_plain;
 use hazard_types::{Oom, Text};
 use std::alloc::Global;
 use worked_lines::times_of;
@@ -45,12 +46,7 @@ fn add_once(alloc: Global, bytes: &mut Text, kept: &[Text], line: &str) -> Resul
             add_answer(alloc, bytes, "200 OK", field, text)?;
         }
         "none" => add_answer(alloc, bytes, "404 Not Found", "", NO_PRODUCT.as_bytes())?,
-        "head" => {
-            bytes.extend(rest.as_bytes())?;
-            bytes.extend(b"\r\n")?;
-        }
-        "bytes" => bytes.extend(rest.as_bytes())?,
-        _ => return Ok(false),
+        _ => return add_plain(bytes, word, rest),
     }
     Ok(true)
 }

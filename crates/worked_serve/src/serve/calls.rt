@@ -1,4 +1,5 @@
 //! HTTP calls, as the bytes that come on a link.
+use crate::plain::add_plain;
 use hazard_types::{Oom, Text};
 use std::alloc::Global;
 use worked_lines::times_of;
@@ -17,12 +18,7 @@ fn add_once(alloc: Global, bytes: &mut Text, line: &str) -> Result<bool, Oom> {
             bytes.extend(head.as_bytes())?;
             bytes.extend(rest.as_bytes())?;
         }
-        "head" => {
-            bytes.extend(rest.as_bytes())?;
-            bytes.extend(b"\r\n")?;
-        }
-        "bytes" => bytes.extend(rest.as_bytes())?,
-        _ => return Ok(false),
+        _ => return add_plain(bytes, word, rest),
     }
     Ok(true)
 }

@@ -1,8 +1,6 @@
 -- Where no rule is broken the lines are those of the cases, and lawful; a rule that is named is the first that is broken.
 use Rattle.std.proofs.Common.{◌≡◌, ◌∙◌, Option, Some, None, ap, rules}
-use Rattle.std.specs.List.Sorted.{IsStrictlySortedBy}
 use Rattle.office_types.specs.declared.refusal.Refusal.{Refusal}
-use Rattle.event_life.specs.Products.{by_key}
 use Rattle.action_planner.specs.Placed.{placed}
 use Rattle.action_planner.specs.Lines.{planned_lines}
 use Rattle.action_planner.specs.Rules.{broken_early, broken_late}
@@ -36,14 +34,10 @@ returns-clause-kept = kept_of
 
 pub returns-clause-cases : goal.returns-clause-cases
 returns-clause-cases c =
-    let rows = c.args.board.now.rows in
-    let sorted : IsStrictlySortedBy by_key rows = c.broken_late.ensures.order in
     let planned : c.in_ok-plan_of.field-0.lines ≡ planned_lines c.args.draft.now.category c.args.board.now.rows c.args.t (placed c.args.numbers.now.counts c.args.t c.args.draft.now.intents) = search rules in
-    cases_of_plan c.args.draft.now.category rows c.args.numbers.now.counts c.args.draft.now.intents c.args.t c.in_ok-plan_of.field-0.lines c.requires sorted (kept_of c) planned
+    cases_of_plan c.args.draft.now.category c.args.board.now.rows c.args.numbers.now.counts c.args.draft.now.intents c.args.t c.in_ok-plan_of.field-0.lines c.requires c.broken_late.ensures.order (kept_of c) planned
 
 pub returns-clause-lawful : goal.returns-clause-lawful
 returns-clause-lawful c =
-    let rows = c.args.board.now.rows in
-    let sorted : IsStrictlySortedBy by_key rows = c.broken_late.ensures.order in
     let planned : c.in_ok-plan_of.field-0.lines ≡ planned_lines c.args.draft.now.category c.args.board.now.rows c.args.t (placed c.args.numbers.now.counts c.args.t c.args.draft.now.intents) = search rules in
-    lawful_plan c.args.draft.now.category rows c.args.numbers.now.counts c.args.draft.now.intents c.args.t c.in_ok-plan_of.field-0.lines c.requires sorted (kept_of c) planned
+    lawful_plan c.args.draft.now.category c.args.board.now.rows c.args.numbers.now.counts c.args.draft.now.intents c.args.t c.in_ok-plan_of.field-0.lines c.requires c.broken_late.ensures.order (kept_of c) planned

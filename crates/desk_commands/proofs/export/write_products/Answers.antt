@@ -1,4 +1,4 @@
-use Rattle.std.proofs.Common.{arith, List, ℕ, ◌+◌, sym, ◌∙◌, subst, refl}
+use Rattle.std.proofs.Common.{arith, ◌+◌, sym, ◌∙◌, subst, refl}
 use Rattle.office_core.specs.Look.{ShowsProduct}
 use Rattle.office_core.specs.State.{product_at}
 use Rattle.office_journal.specs.Kept.{state_of}
@@ -7,15 +7,9 @@ use Rattle.desk_commands.proofs.export.write_products.Goals as goal
 
 pub returns-in-Err : goal.returns-in-Err
 returns-in-Err g c =
-    let sink = g.K.Sink in
-    let s = state_of c.args.kept.now in
-    let n = c.loop-index.index in
-    let text = c.as_slice.result.now in
-    let shows = subst (λ (t : List ℕ). ShowsProduct (product_at s (n + 1)) t) (sym c.as_slice.ensures) c.in-Ok.ensures.shows in
-    let written = c.in-Err.ensures.written in
-    let part = written.part in
-    exported_part s n part.0 text (sink.outflow c.args.output.now) (sink.outflow c.loop-index.output) (sink.outflow c.write_whole.new.sink)
-    shows c.loop-index.invariant.wrote part.2 c.loop-index.invariant.steady written.cause.failed
+    let part = c.in-Err.ensures.written.part in
+    exported_part (state_of c.args.kept.now) c.loop-index.index part.0 c.as_slice.result.now (g.K.Sink.outflow c.args.output.now) (g.K.Sink.outflow c.loop-index.output) (g.K.Sink.outflow c.write_whole.new.sink)
+    (subst (ShowsProduct (product_at (state_of c.args.kept.now) (c.loop-index.index + 1))) (sym c.as_slice.ensures) c.in-Ok.ensures.shows) c.loop-index.invariant.wrote part.2 c.loop-index.invariant.steady c.in-Err.ensures.written.cause.failed
 
 pub unreachable-requires : goal.unreachable-requires
 unreachable-requires g c =
@@ -30,12 +24,9 @@ returns-in-Err-OutOfMemory g c =
 pub loop-index-preserved : goal.loop-index-preserved
 loop-index-preserved g c =
     let sink = g.K.Sink in
-    let s = state_of c.args.kept.now in
-    let n = c.loop-index.index in
-    let text = c.as_slice.result.now in
-    let shows = subst (λ (t : List ℕ). ShowsProduct (product_at s (n + 1)) t) (sym c.as_slice.ensures) c.in-Ok.ensures.shows in
+    let shows = subst (ShowsProduct (product_at (state_of c.args.kept.now) (c.loop-index.index + 1))) (sym c.as_slice.ensures) c.in-Ok.ensures.shows in
     record {
-      wrote = wrote_next s n text (sink.outflow c.args.output.now).taken (sink.outflow c.loop-index.output).taken (sink.outflow c.write_whole.new.sink).taken shows c.loop-index.invariant.wrote c.in-Ok-write_whole.ensures.written.ok;
+      wrote = wrote_next (state_of c.args.kept.now) c.loop-index.index c.as_slice.result.now (sink.outflow c.args.output.now).taken (sink.outflow c.loop-index.output).taken (sink.outflow c.write_whole.new.sink).taken shows c.loop-index.invariant.wrote c.in-Ok-write_whole.ensures.written.ok;
       steady = c.in-Ok-write_whole.ensures.written.steady ∙ c.loop-index.invariant.steady;
     }
 

@@ -3,7 +3,7 @@ use Rattle.byte_streams.specs.Flows.{Takes}
 use Rattle.httparse.specs.Grammar.{HasNoResponse}
 use Rattle.follow_links.proofs.Joining.{takes_none}
 use Rattle.follow_links.proofs.Listening.{full_is_bad, head_stops}
-use Rattle.follow_links.proofs.Sizes.{none_in_nothing}
+use Rattle.http_heads.proofs.Sizes.{none_in_nothing}
 use Rattle.follow_links.proofs.reading.read_head.Goals as goal
 
 pub loop-buffer-init : goal.loop-buffer-init

@@ -1,7 +1,6 @@
-use Rattle.std.proofs.Common.{◌≡◌, ◌⊎◌, ◌-◌, ap, arith, rules}
+use Rattle.std.proofs.Common.{◌-◌, ◌∙◌, ap, sym, arith, rules}
 use Rattle.desk_links.specs.Links.{DialerState}
-use Rattle.follow_links.specs.declared.talk.LinkEnd.TheVariants as link
-use Rattle.follow_links.proofs.Turned.{turns_none, turns_failed, turns_on, one_round, room_kept, course_none, course_spent, course_spends, course_ends, course_bad, course_memory}
+use Rattle.follow_links.proofs.Turned.{turns_none, turns_failed, turns_on, one_round, room_kept, up_with, course_none, course_spent, course_on}
 use Rattle.follow_links.proofs.rounds.follow_rounds.Goals as goal
 
 pub returns-in_default-clause-course : goal.returns-in_default-clause-course
@@ -31,7 +30,7 @@ loop-left-preserved-in-Err g c = record {
 
 pub loop-left-preserved : goal.loop-left-preserved
 loop-left-preserved g c =
-    let up : (c.talk-end.result ≡ link.Closed) ⊎ (c.talk-end.result ≡ link.Failed) = search rules in
+    let up = up_with c.talk-end.result (sym c.stop_with.ensures ∙ c.in-None.is) in
     let fewer =
     one_round (g.D.Dialer.state c.args.dialer.now) (g.D.Dialer.state c.loop-left.dialer) (g.D.Dialer.state c.dial.new.self) (g.D.Dialer.state c.return_link.new.self)
     c.args.follower.now c.loop-left.follower c.talk-end.new.follower c.args.rounds c.loop-left.left c.talk-end.new.left (g.D.Link.Link.state c.in-Ok-dial.link) (g.D.Link.Link.state c.talk-end.new.link) c.talk-end.result
@@ -46,29 +45,11 @@ loop-left-preserved g c =
           c.loop-left.invariant.turns c.in-Ok-dial.ensures.links c.in-Ok-dial.ensures.steady c.in-Ok-dial.ensures.fresh c.talk-end.ensures.talks c.return_link.ensures up;
     }
 
-pub returns-in-Spent-clause-course : goal.returns-in-Spent-clause-course
-returns-in-Spent-clause-course g c =
-    course_spends (g.D.Dialer.state c.args.dialer.now) (g.D.Dialer.state c.loop-left.dialer) (g.D.Dialer.state c.dial.new.self) (g.D.Dialer.state c.return_link.new.self)
+pub returns-in-Some-clause-course : goal.returns-in-Some-clause-course
+returns-in-Some-clause-course g c =
+    course_on (g.D.Dialer.state c.args.dialer.now) (g.D.Dialer.state c.loop-left.dialer) (g.D.Dialer.state c.dial.new.self) (g.D.Dialer.state c.return_link.new.self)
     c.args.follower.now c.loop-left.follower c.talk-end.new.follower c.args.rounds c.loop-left.left c.talk-end.new.left (g.D.Link.Link.state c.in-Ok-dial.link) (g.D.Link.Link.state c.talk-end.new.link) c.talk-end.result
-    c.loop-left.invariant.turns c.in-Ok-dial.ensures.links c.in-Ok-dial.ensures.steady c.in-Ok-dial.ensures.fresh c.talk-end.ensures.talks c.return_link.ensures c.in-Spent.is
-
-pub returns-in-Ended-clause-course : goal.returns-in-Ended-clause-course
-returns-in-Ended-clause-course g c =
-    course_ends (g.D.Dialer.state c.args.dialer.now) (g.D.Dialer.state c.loop-left.dialer) (g.D.Dialer.state c.dial.new.self) (g.D.Dialer.state c.return_link.new.self)
-    c.args.follower.now c.loop-left.follower c.talk-end.new.follower c.args.rounds c.loop-left.left c.talk-end.new.left (g.D.Link.Link.state c.in-Ok-dial.link) (g.D.Link.Link.state c.talk-end.new.link) c.talk-end.result
-    c.loop-left.invariant.turns c.in-Ok-dial.ensures.links c.in-Ok-dial.ensures.steady c.in-Ok-dial.ensures.fresh c.talk-end.ensures.talks c.return_link.ensures c.in-Ended.is
-
-pub returns-in-Bad-clause-course : goal.returns-in-Bad-clause-course
-returns-in-Bad-clause-course g c =
-    course_bad (g.D.Dialer.state c.args.dialer.now) (g.D.Dialer.state c.loop-left.dialer) (g.D.Dialer.state c.dial.new.self) (g.D.Dialer.state c.return_link.new.self)
-    c.args.follower.now c.loop-left.follower c.talk-end.new.follower c.args.rounds c.loop-left.left c.talk-end.new.left (g.D.Link.Link.state c.in-Ok-dial.link) (g.D.Link.Link.state c.talk-end.new.link) c.talk-end.result
-    c.loop-left.invariant.turns c.in-Ok-dial.ensures.links c.in-Ok-dial.ensures.steady c.in-Ok-dial.ensures.fresh c.talk-end.ensures.talks c.return_link.ensures c.in-Bad.is
-
-pub returns-in-OutOfMemory-clause-course : goal.returns-in-OutOfMemory-clause-course
-returns-in-OutOfMemory-clause-course g c =
-    course_memory (g.D.Dialer.state c.args.dialer.now) (g.D.Dialer.state c.loop-left.dialer) (g.D.Dialer.state c.dial.new.self) (g.D.Dialer.state c.return_link.new.self)
-    c.args.follower.now c.loop-left.follower c.talk-end.new.follower c.args.rounds c.loop-left.left c.talk-end.new.left (g.D.Link.Link.state c.in-Ok-dial.link) (g.D.Link.Link.state c.talk-end.new.link) c.talk-end.result
-    c.loop-left.invariant.turns c.in-Ok-dial.ensures.links c.in-Ok-dial.ensures.steady c.in-Ok-dial.ensures.fresh c.talk-end.ensures.talks c.return_link.ensures c.in-OutOfMemory.is
+    c.loop-left.invariant.turns c.in-Ok-dial.ensures.links c.in-Ok-dial.ensures.steady c.in-Ok-dial.ensures.fresh c.talk-end.ensures.talks c.return_link.ensures c.in-Some.stop (sym c.stop_with.ensures ∙ c.in-Some.is)
 
 pub returns-clause-course : goal.returns-clause-course
 returns-clause-course g c =

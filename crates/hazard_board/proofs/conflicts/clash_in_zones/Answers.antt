@@ -12,7 +12,7 @@ use Rattle.hazard_board.specs.ByZone.{LinesByZone, lines_at}
 use Rattle.hazard_board.specs.Clashes.{first_clash}
 use Rattle.hazard_board.specs.Taken.{rows_taken}
 use Rattle.hazard_board.proofs.ByZoneLemmas.{lines_found}
-use Rattle.hazard_board.proofs.Keyed.{has_after}
+use Rattle.event_life.proofs.Keyed.{has_after}
 use Rattle.hazard_board.proofs.QuietRows.{quiet_elsewhere}
 use Rattle.hazard_board.proofs.SliceLemmas.{names_zone}
 use Rattle.hazard_board.proofs.Turns.{rows_taken-sorted}

@@ -5,22 +5,16 @@ use Rattle.hazard_types.specs.declared.period.End.{End}
 use Rattle.hazard_board.specs.Periods.{latest_in}
 use Rattle.hazard_board.specs.Standing.{end_in, touched, moves_end}
 use Rattle.hazard_board.specs.declared.standing.Standing.{Standing}
-use Rattle.hazard_board.proofs.SettleLemmas.{settled_anew, settled_by, moves_anew, room_left, grown_anew, grown_still}
+use Rattle.hazard_board.proofs.SettleLemmas.{settled_anew, settled_by, moves_anew, room_moved, grown_anew, grown_still}
 use Rattle.hazard_board.proofs.standing.set_latest_ends.Goals as goal
 use Rattle.hazard_board.proofs.standing.set_latest_ends.Goals.{then-is_end_to_set, else-is_end_to_set}
 
 pub set_end-requires-clause-room : goal.set_end-requires-clause-room
 set_end-requires-clause-room c some none =
-    let rows = c.args.periods.now in
-    let lines = c.args.lines.now in
-    let was = c.args.standing.now.items in
-    let now = c.loop-place.standing.items in
-    let i = c.loop-place.place in
     let line = c.index-lines-place.result in
-    let moves = ap (λ (some : List Standing). moves_end some line (latest_in rows line.event)) (sym c.deref.ensures.value) ∙ c.is_end_to_set.ensures.moves c.if-is_end_to_set.true in
-    let first = moves_anew rows lines was now i line c.loop-place-test.true c.index-lines-place.is c.loop-place.invariant.ends moves in
-    room_left rows lines was now i line c.loop-place-test.true c.index-lines-place.is c.loop-place.invariant.ends
-    _ _ _ first none c.loop-place.invariant.length (omega (arith, c.requires.room, c.loop-place.invariant.capacity))
+    let moves = ap (λ (some : List Standing). moves_end some line (latest_in c.args.periods.now line.event)) (sym c.deref.ensures.value) ∙ c.is_end_to_set.ensures.moves c.if-is_end_to_set.true in
+    room_moved c.args.periods.now c.args.lines.now c.args.standing.now.items c.loop-place.standing.items c.loop-place.place line c.loop-place-test.true c.index-lines-place.is c.loop-place.invariant.ends
+    _ _ _ moves none c.loop-place.invariant.length (omega (arith, c.requires.room, c.loop-place.invariant.capacity))
 
 pub loop-place-preserved : goal.loop-place-preserved
 loop-place-preserved c =

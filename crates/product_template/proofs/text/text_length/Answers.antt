@@ -8,7 +8,7 @@ pub returns : goal.returns
 returns c =
     let told : c.in_ok-told.told ≡ map told_of c.args.plan.now.texts = search rules in
     let said : c.in_ok-said.said ≡ length_in_segments (map told_of c.args.plan.now.texts) c.args.plan.now.segments = search rules in
-    let bare : c.in_ok-bare.bare ≡ text_with c.args.settings.now c.args.class c.args.plan.now [] c.args.t c.args.edition = search rules in
-    let bytes : c.len.result ≡ length (text_with c.args.settings.now c.args.class c.args.plan.now [] c.args.t c.args.edition) = search rules in
-    let whole : _ ≡ length (text_of c.args.settings.now c.args.class c.args.plan.now c.args.t c.args.edition) = longer c.args.settings.now c.args.class c.args.plan.now c.args.t c.args.edition in
+    let bare : c.in_ok-bare.bare ≡ text_with c.args.settings.now c.args.making.class c.args.plan.now [] c.args.making.t c.args.making.edition = search rules in
+    let bytes : c.len.result ≡ length (text_with c.args.settings.now c.args.making.class c.args.plan.now [] c.args.making.t c.args.making.edition) = search rules in
+    let whole : _ ≡ length (text_of c.args.settings.now c.args.making.class c.args.plan.now c.args.making.t c.args.making.edition) = longer c.args.settings.now c.args.making.class c.args.plan.now c.args.making.t c.args.making.edition in
     sum_told c.checked_sum.result _ _ _ c.checked_sum.ensures (omega (arith, said, bytes, whole))

@@ -4,7 +4,7 @@ use Rattle.httparse.specs.Grammar.{ReadsRequest}
 use Rattle.httparse.specs.Outcome.{IfComplete}
 use Rattle.httparse.specs.declared.Error.{Error}
 use Rattle.httparse.specs.Spans.{IsRequestOf, RequestExceeds}
-use Rattle.warn_http.proofs.Sizes.{no_room_for}
+use Rattle.http_heads.proofs.Sizes.{no_room_for_request}
 use Rattle.warn_http.proofs.heads.with_room.Goals as goal
 
 pub returns-in-Ok-Complete : goal.returns-in-Ok-Complete
@@ -18,7 +18,7 @@ returns-in-Ok-Complete c = λ headers.
 pub unreachable-requires : goal.unreachable-requires
 unreachable-requires c =
     let room : length c.as_mut_slice.result.now ≡ 2731 = search rules in
-    no_room_for c.args.bytes.now c.requires.small (subst (λ (n : ℕ). RequestExceeds n c.args.bytes.now) room (c.parse_request.ensures.too_many (c.in-Err-TooManyHeaders.is ∙ ap (λ z. Err z) c.in-Err-TooManyHeaders.field-0-is)))
+    no_room_for_request c.args.bytes.now c.requires.small (subst (λ (n : ℕ). RequestExceeds n c.args.bytes.now) room (c.parse_request.ensures.too_many (c.in-Err-TooManyHeaders.is ∙ ap (λ z. Err z) c.in-Err-TooManyHeaders.field-0-is)))
 
 pub returns : goal.returns
 returns c = λ headers. search rules

@@ -1,4 +1,4 @@
-use Rattle.warn_http.proofs.Streams.{call_stays, refused_stays, cut_stays, calls_stay}
+use Rattle.warn_http.proofs.Streams.{call_stays, refused_stays}
 use Rattle.warn_http.proofs.laws.calls_stay.Goals as goal
 
 pub returns-clause-call : goal.returns-clause-call
@@ -6,9 +6,3 @@ returns-clause-call c = call_stays
 
 pub returns-clause-refused : goal.returns-clause-refused
 returns-clause-refused c = refused_stays
-
-pub returns-clause-cut : goal.returns-clause-cut
-returns-clause-cut c = cut_stays
-
-pub returns-clause-calls : goal.returns-clause-calls
-returns-clause-calls c = calls_stay

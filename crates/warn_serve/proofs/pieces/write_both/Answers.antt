@@ -1,19 +1,12 @@
 use Rattle.std.proofs.Common.{rules}
-use Rattle.warn_serve.proofs.Fronts.{part_first, then_second}
+use Rattle.warn_serve.proofs.Fronts.{first_failed, then_second}
 use Rattle.warn_serve.proofs.pieces.write_both.Goals as goal
 
 pub returns-in_err-write_link : goal.returns-in_err-write_link
 returns-in_err-write_link g c =
     let state = g.L.Link.state in
     let sent = c.in_err-write_link.ensures in
-    record {
-      ok = search rules;
-      part = part_first (state c.args.link.now).output.taken (state c.write_link.new.link).output.taken c.args.first.now c.args.second.now sent.part;
-      cause = search rules;
-      steady = search rules;
-      came = sent.came;
-      input = sent.input;
-    }
+    first_failed (state c.args.link.now) (state c.write_link.new.link) c.args.first.now c.args.second.now c.from_residual.result sent.part sent.came sent.input (search rules) (search rules) (search rules)
 
 pub returns : goal.returns
 returns g c =

@@ -2,7 +2,7 @@ use Rattle.std.proofs.Common.{◌≡◌, ◌++◌, List, ℕ, decimal, rules, su
 use Rattle.desk_links.specs.Links.{WritesLink}
 use Rattle.desk_traits.specs.declared.faults.Failed.{Failed}
 use Rattle.warn_serve.specs.Pieces.{behind_length}
-use Rattle.warn_serve.proofs.Fronts.{front, part_first, then_second}
+use Rattle.warn_serve.proofs.Fronts.{first_failed, front, then_second}
 use Rattle.warn_serve.proofs.pieces.write_head.Goals as goal
 
 pub returns-in_err-write_both : goal.returns-in_err-write_both
@@ -12,14 +12,7 @@ returns-in_err-write_both g c =
     let number : c.as_bytes.result.now ≡ decimal c.args.count = search rules in
     let behind = behind_length c.args.last in
     subst (λ (t : List ℕ). WritesLink {E = Failed} (state c.args.link.now) (state c.write_both.new.link) c.from_residual.result (front ++ t ++ behind)) number
-    (record {
-      ok = search rules;
-      part = part_first (state c.args.link.now).output.taken (state c.write_both.new.link).output.taken (front ++ c.as_bytes.result.now) behind sent.part;
-      cause = search rules;
-      steady = search rules;
-      came = sent.came;
-      input = sent.input;
-    })
+    (first_failed (state c.args.link.now) (state c.write_both.new.link) (front ++ c.as_bytes.result.now) behind c.from_residual.result sent.part sent.came sent.input (search rules) (search rules) (search rules))
 
 pub returns : goal.returns
 returns g c =

@@ -4,7 +4,7 @@ use Rattle.desk_traits.specs.declared.faults.Failed.{Failed}
 use Rattle.warn_http.specs.Outcomes.{call_answer}
 use Rattle.warn_http.specs.declared.outcomes.Outcome.TheVariants.{Replied}
 use Rattle.warn_serve.specs.Pieces.{reply_head}
-use Rattle.warn_serve.proofs.Fronts.{part_first, reply_parts, then_second}
+use Rattle.warn_serve.proofs.Fronts.{first_failed, reply_parts, then_second}
 use Rattle.warn_serve.proofs.pieces.write_reply.Goals as goal
 
 pub returns-in_err-write_head : goal.returns-in_err-write_head
@@ -16,14 +16,7 @@ returns-in_err-write_head g c =
     let count : c.len.result ≡ length reply = search rules in
     let whole : reply_head c.len.result last ++ reply ≡ call_answer Replied reply last = ap (λ (n : ℕ). reply_head n last ++ reply) count ∙ reply_parts reply last in
     subst (λ (t : List ℕ). WritesLink {E = Failed} (state c.args.link.now) (state c.write_head.new.link) c.from_residual.result t) whole
-    (record {
-      ok = search rules;
-      part = part_first (state c.args.link.now).output.taken (state c.write_head.new.link).output.taken (reply_head c.len.result last) reply sent.part;
-      cause = search rules;
-      steady = search rules;
-      came = sent.came;
-      input = sent.input;
-    })
+    (first_failed (state c.args.link.now) (state c.write_head.new.link) (reply_head c.len.result last) reply c.from_residual.result sent.part sent.came sent.input (search rules) (search rules) (search rules))
 
 pub returns : goal.returns
 returns g c =

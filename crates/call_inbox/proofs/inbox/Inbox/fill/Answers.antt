@@ -1,7 +1,7 @@
 use Rattle.std.proofs.Common.{List, ℕ, ◌+◌, ◌++◌, take, drop, ap, ◌∙◌, rules}
 use Rattle.std.specs.Vec.{with_items}
 use Rattle.std.proofs.lemmas.List.{with_items_is, places}
-use Rattle.call_inbox.proofs.Places.{between, between_same, between_more}
+use Rattle.call_inbox.proofs.Places.{between, between_more, kept_still}
 use Rattle.call_inbox.proofs.Steps.{on_err, read_nothing}
 use Rattle.call_inbox.proofs.inbox.Inbox.fill.Goals as goal
 
@@ -10,13 +10,11 @@ returns-in_err-count-clause-read g c =
     let first = c.self.inside.buffer in
     let moved = c.places_with_room-start.new.buffer in
     let filled = c.read_behind.new.buffer in
-    let start = c.places_with_room-start.result.0 in
-    let end = c.places_with_room-start.result.1 in
-    let moved_is = with_items_is first moved (search (rules, places)) in
-    let filled_is = with_items_is (with_items first moved) filled (search (rules, places)) in
-    let stood = c.places_with_room-start.ensures.same ∙ ap (λ (b : List ℕ). between b c.self.inside.start c.self.inside.end) c.as_mut_slice.ensures.value ∙ c.self.view_is in
-    let front = c.read_behind.ensures.front ∙ ap (take end) (c.as_mut_slice-2.ensures.value ∙ moved_is) in
-    read_nothing _ _ _ _ (ap (λ (b : List ℕ). between b start end) filled_is ∙ between_same moved filled start end c.places_with_room-start.ensures.order front ∙ stood) c.in_err-count.ensures.read.bytes c.in_err-count.ensures.read.came c.in_err-count.ensures.read.output
+    read_nothing _ _ _ _
+    (kept_still first.items _ moved filled _ c.self.inside.start c.self.inside.end c.places_with_room-start.result.0 c.places_with_room-start.result.1 _ _
+      c.places_with_room-start.ensures.same c.as_mut_slice.ensures.value c.self.view_is (with_items_is (with_items first moved) filled (search (rules, places)))
+      c.places_with_room-start.ensures.order c.read_behind.ensures.front (c.as_mut_slice-2.ensures.value ∙ with_items_is first moved (search (rules, places))))
+    c.in_err-count.ensures.read.bytes c.in_err-count.ensures.read.came c.in_err-count.ensures.read.output
 
 pub returns-clause-read : goal.returns-clause-read
 returns-clause-read g c =
@@ -43,10 +41,7 @@ returns-in_err-count-clause-unread g c =
     let first = c.self.inside.buffer in
     let moved = c.places_with_room-start.new.buffer in
     let filled = c.read_behind.new.buffer in
-    let start = c.places_with_room-start.result.0 in
-    let end = c.places_with_room-start.result.1 in
-    let moved_is = with_items_is first moved (search (rules, places)) in
-    let filled_is = with_items_is (with_items first moved) filled (search (rules, places)) in
-    let stood = c.places_with_room-start.ensures.same ∙ ap (λ (b : List ℕ). between b c.self.inside.start c.self.inside.end) c.as_mut_slice.ensures.value ∙ c.self.view_is in
-    let front = c.read_behind.ensures.front ∙ ap (take end) (c.as_mut_slice-2.ensures.value ∙ moved_is) in
-    on_err c.from_residual.result _ (ap (λ (b : List ℕ). between b start end) filled_is ∙ between_same moved filled start end c.places_with_room-start.ensures.order front ∙ stood)
+    on_err c.from_residual.result _
+    (kept_still first.items _ moved filled _ c.self.inside.start c.self.inside.end c.places_with_room-start.result.0 c.places_with_room-start.result.1 _ _
+      c.places_with_room-start.ensures.same c.as_mut_slice.ensures.value c.self.view_is (with_items_is (with_items first moved) filled (search (rules, places)))
+      c.places_with_room-start.ensures.order c.read_behind.ensures.front (c.as_mut_slice-2.ensures.value ∙ with_items_is first moved (search (rules, places))))

@@ -54,44 +54,38 @@ put_if_fits-requires-else-place-eq0 c =
     let place = place_is at.After-shelves_through-place in
     shelf_at_sorted c.self.inside.later.items (c.shelves_through-place.result - 1) c.index_mut-shelf.result.now (inside at.After-index_mut-shelf place) c.index_mut-shelf.ensures.value (sorted_back c.self.inside.first.items (on_shelves c.self.inside.later.items) c.self.invariant.order)
 
+-- the shelf with the rows that are left on it
+abbrev shelf_now : After-put_if_fits-else-place-eq0 → Shelf
+shelf_now c = record { from = c.index_mut-shelf.result.now.from; rows = c.put_if_fits-else-place-eq0.new.rows }
+
 -- a shelf whose rows are as before
 kept : (c : After-put_if_fits-else-place-eq0) → c.shelves_through-place.result - 1 < length c.self.inside.later.items → c.put_if_fits-else-place-eq0.new.rows.items ≡ c.index_mut-shelf.result.now.rows.items →
-    AreKept 0 c.self.inside.later.items (slice_set c.self.inside.later.items (c.shelves_through-place.result - 1) (record { from = c.index_mut-shelf.result.now.from; rows = c.put_if_fits-else-place-eq0.new.rows }))
+    AreKept 0 c.self.inside.later.items (slice_set c.self.inside.later.items (c.shelves_through-place.result - 1) (shelf_now c))
 kept c within is =
     let s = c.index_mut-shelf.result.now in
-    let rows = c.put_if_fits-else-place-eq0.new.rows in
-    let now : Shelf = record { from = s.from; rows = rows } in
     let long = ap length is in
-    set_kept 0 c.self.inside.later.items (c.shelves_through-place.result - 1) s now within c.index_mut-shelf.ensures.value refl is (omega (arith, long, c.put_if_fits-else-place-eq0.ensures.capacity, s.rows.ok.0, rows.ok.0))
+    set_kept 0 c.self.inside.later.items (c.shelves_through-place.result - 1) s (shelf_now c) within c.index_mut-shelf.ensures.value refl is (omega (arith, long, c.put_if_fits-else-place-eq0.ensures.capacity, s.rows.ok.0, c.put_if_fits-else-place-eq0.new.rows.ok.0))
 
 pub invariant_of-self-else-place-eq0 : goal.invariant_of-self-else-place-eq0
 invariant_of-self-else-place-eq0 c =
     let at = goal.at.invariant_of-self-else-place-eq0 c in
     let place = place_is at.After-shelves_through-place in
-    let within = inside at.After-index_mut-shelf place in
-    let row = c.args.row.now in
-    let first = c.self.inside.first.items in
     let later = c.self.inside.later.items in
-    let k = c.shelves_through-place.result - 1 in
     let s = c.index_mut-shelf.result.now in
-    let rows = c.put_if_fits-else-place-eq0.new.rows in
-    let now : Shelf = record { from = s.from; rows = rows } in
-    if_kept c.put_if_fits-else-place-eq0.result (λ (some : List Row). AreShelved first (slice_set later k now)) rows.items (put row s.rows.items) s.rows.items c.put_if_fits-else-place-eq0.ensures.rows
-    (λ is. shelved_later row first later k s now (next at.After-index_mut-shelf place) c.index_mut-shelf.ensures.value refl is c.self.invariant)
-    (λ is. (kept at.After-put_if_fits-else-place-eq0 within is).shelved first c.self.invariant)
+    let now = shelf_now at.After-put_if_fits-else-place-eq0 in
+    if_kept c.put_if_fits-else-place-eq0.result (λ (some : List Row). AreShelved c.self.inside.first.items (slice_set later (c.shelves_through-place.result - 1) now)) now.rows.items (put c.args.row.now s.rows.items) s.rows.items c.put_if_fits-else-place-eq0.ensures.rows
+    (λ is. shelved_later c.args.row.now c.self.inside.first.items later (c.shelves_through-place.result - 1) s now (next at.After-index_mut-shelf place) c.index_mut-shelf.ensures.value refl is c.self.invariant)
+    (λ is. (kept at.After-put_if_fits-else-place-eq0 (inside at.After-index_mut-shelf place) is).shelved c.self.inside.first.items c.self.invariant)
 
 pub returns-else-place-eq0 : goal.returns-else-place-eq0
 returns-else-place-eq0 c =
     let at = goal.at.returns-else-place-eq0 c in
     let place = place_is at.After-shelves_through-place in
-    let within = inside at.After-index_mut-shelf place in
     let row = c.args.row.now in
     let first = c.self.inside.first.items in
-    let later = c.self.inside.later.items in
     let k = c.shelves_through-place.result - 1 in
     let s = c.index_mut-shelf.result.now in
-    let rows = c.put_if_fits-else-place-eq0.new.rows in
-    let now : Shelf = record { from = s.from; rows = rows } in
-    if_told c.put_if_fits-else-place-eq0.result rows.items (put row s.rows.items) s.rows.items (first ++ on_shelves (slice_set later k now)) (put row c.args.self.now.rows) c.args.self.now.rows c.put_if_fits-else-place-eq0.ensures.rows
-    (λ is. put_later row first later c.self.invariant k s now (next at.After-index_mut-shelf place) c.index_mut-shelf.ensures.value is ∙ ap (λ (p : Posted). put row p.rows) c.self.view_is)
-    (λ is. ap (λ (some : List Row). first ++ some) (kept at.After-put_if_fits-else-place-eq0 within is).rows ∙ ap (λ (p : Posted). p.rows) c.self.view_is)
+    let now = shelf_now at.After-put_if_fits-else-place-eq0 in
+    if_told c.put_if_fits-else-place-eq0.result now.rows.items (put row s.rows.items) s.rows.items (first ++ on_shelves (slice_set c.self.inside.later.items k now)) (put row c.args.self.now.rows) c.args.self.now.rows c.put_if_fits-else-place-eq0.ensures.rows
+    (λ is. put_later row first c.self.inside.later.items c.self.invariant k s now (next at.After-index_mut-shelf place) c.index_mut-shelf.ensures.value is ∙ ap (λ (p : Posted). put row p.rows) c.self.view_is)
+    (λ is. ap (λ (some : List Row). first ++ some) (kept at.After-put_if_fits-else-place-eq0 (inside at.After-index_mut-shelf place) is).rows ∙ ap (λ (p : Posted). p.rows) c.self.view_is)

@@ -5,7 +5,7 @@ use Rattle.std.specs.Map.{values_of}
 use Rattle.hazard_types.specs.Places.{Place}
 use Rattle.hazard_types.specs.declared.line.Row.{Row}
 use Rattle.event_life.specs.declared.life.Life.{Life}
-use Rattle.row_index.specs.Sharing.{rows_put, rows_with}
+use Rattle.row_index.specs.Sharing.{lives_put, rows_put, rows_with}
 use Rattle.row_index.specs.Tallies.{AreTallied, IsTallied}
 use Rattle.row_index.specs.Zoning.{AreOf}
 use Rattle.row_index.proofs.Coming.{runs-put, rows-tallied}
@@ -15,11 +15,12 @@ pub returns-clause-set : goal.returns-clause-set
 returns-clause-set c =
     let e = c.args.event.now in
     let own = subst (λ (es : List (Place × Row)). AreOf e (values_of es)) (sym c.self.view_is) c.requires in
-    on_ok_weaker c.set.result
+    on_ok_weaker c.put_each.result
     (λ is. ap (λ (lives : List (Place × Life)). rows_with e lives) is
+    ∙ ap (λ (lives : List (Place × Life)). rows_with e (lives_put c.args.life.now c.args.zones.now lives)) c.compact.ensures
     ∙ runs-put c.self.inside.event e c.args.life.now c.args.zones.now c.self.inside.lives c.self.invariant own
     ∙ ap (λ (es : List (Place × Row)). rows_put e c.args.life.now c.args.zones.now es) c.self.view_is)
-    c.set.ensures.set
+    c.put_each.ensures.set
 
 pub returns-clause-before : goal.returns-clause-before
 returns-clause-before c =
@@ -27,9 +28,10 @@ returns-clause-before c =
     let zones = c.args.zones.now in
     let life = c.args.life.now in
     let own = subst (λ (es : List (Place × Row)). AreOf e (values_of es)) (sym c.self.view_is) c.requires in
-    IfOk-weaker c.set.result
-    (λ befores. (p : Life → Bool) → IsTallied p (values_of c.self.inside.lives) (values_of c.set.new.self) befores.items (length zones) life)
-    (λ befores. (p : Life → Bool) → AreTallied p (values_of c.args.self.now) (values_of (rows_with e c.set.new.self)) befores.items (length zones) life)
-    (λ befores told p. subst (λ (es : List (Place × Row)). AreTallied p (values_of es) (values_of (rows_with e c.set.new.self)) befores.items (length zones) life) c.self.view_is
-    (rows-tallied c.self.inside.event e c.self.inside.lives c.set.new.self befores.items (length zones) life p c.self.invariant own (told p)))
-    c.set.ensures.before
+    IfOk-weaker c.put_each.result
+    (λ befores. (p : Life → Bool) → IsTallied p (values_of c.compact.new.self) (values_of c.put_each.new.self) befores.items (length zones) life)
+    (λ befores. (p : Life → Bool) → AreTallied p (values_of c.args.self.now) (values_of (rows_with e c.put_each.new.self)) befores.items (length zones) life)
+    (λ befores told p. subst (λ (es : List (Place × Row)). AreTallied p (values_of es) (values_of (rows_with e c.put_each.new.self)) befores.items (length zones) life) c.self.view_is
+    (rows-tallied c.self.inside.event e c.self.inside.lives c.put_each.new.self befores.items (length zones) life p c.self.invariant own
+    (subst (λ (lives : List (Place × Life)). IsTallied p (values_of lives) (values_of c.put_each.new.self) befores.items (length zones) life) c.compact.ensures (told p))))
+    c.put_each.ensures.before

@@ -10,7 +10,7 @@ use Rattle.segmenter.specs.Said.{IsApart}
 use Rattle.action_planner.specs.Corrections.{corrected_lines}
 use Rattle.action_planner.specs.Standing.{Stands}
 use Rattle.worked_rows.specs.Days.{IsAt, Standing, last_of, letters_of, original_of}
-use Rattle.worked_rows.proofs.DayLemmas.{apart_at, named, one_more, only_one}
+use Rattle.worked_rows.proofs.DayLemmas.{apart_before, named, one_more, only_one}
 use Rattle.worked_rows.proofs.SegmentLemmas.{can_be_written}
 use Rattle.action_planner.specs.Corrections.{broken_correction}
 use Rattle.worked_rows.proofs.board.days.Day.correct.Goals as goal
@@ -19,10 +19,8 @@ pub plan_correction-requires : goal.plan_correction-requires
 plan_correction-requires c =
     let stands : Stands c.self.inside.board.rows c.self.inside.numbers.counts c.args.t =
     c.standing_conditions_persist.ensures c.self.inside.board.rows c.self.inside.numbers.counts c.self.inside.last c.args.t (rw (ap (λ (d : Standing). d.last) c.self.view_is) c.requires.later) c.self.invariant.0 in
-    let sent_is : c.index-products-place.result ≡ get_or c.self.inside.products c.args.place c.index-products-place.result =
-    c.index-products-place.is ∙ ap (λ (xs : List Sent). get_or xs c.args.place c.index-products-place.result) c.as_slice-products.ensures in
-    let before : AllPairs IsApart c.index-products-place.result.lines = subst (λ (s : Sent). AllPairs IsApart s.lines) (sym sent_is)
-    (apart_at c.self.inside.products c.args.place c.index-products-place.result (rw (ap (λ (d : Standing). length d.products) c.self.view_is) c.requires.place) c.self.invariant.2) in
+    let before : AllPairs IsApart c.index-products-place.result.lines = apart_before c.self.inside.products c.args.place c.index-products-place.result
+    (c.index-products-place.is ∙ ap (λ (xs : List Sent). get_or xs c.args.place c.index-products-place.result) c.as_slice-products.ensures) (rw (ap (λ (d : Standing). length d.products) c.self.view_is) c.requires.place) c.self.invariant.2 in
     record { apart = before; few = c.letters_of-letters.ensures.range; consistent = stands.consistent; sited = stands.sited; minute = c.requires.soon }
 
 pub returns-clause-written : goal.returns-clause-written
@@ -42,10 +40,8 @@ invariant_of-self-2 c =
     let lines = corrected_lines rows c.args.t sent.lines in
     let stands : Stands c.self.inside.board.rows c.self.inside.numbers.counts c.args.t =
     c.standing_conditions_persist.ensures c.self.inside.board.rows c.self.inside.numbers.counts c.self.inside.last c.args.t (rw (ap (λ (d : Standing). d.last) c.self.view_is) c.requires.later) c.self.invariant.0 in
-    let sent_is : c.index-products-place.result ≡ get_or c.self.inside.products c.args.place c.index-products-place.result =
-    c.index-products-place.is ∙ ap (λ (xs : List Sent). get_or xs c.args.place c.index-products-place.result) c.as_slice-products.ensures in
-    let before : AllPairs IsApart c.index-products-place.result.lines = subst (λ (s : Sent). AllPairs IsApart s.lines) (sym sent_is)
-    (apart_at c.self.inside.products c.args.place c.index-products-place.result (rw (ap (λ (d : Standing). length d.products) c.self.view_is) c.requires.place) c.self.invariant.2) in
+    let before : AllPairs IsApart c.index-products-place.result.lines = apart_before c.self.inside.products c.args.place c.index-products-place.result
+    (c.index-products-place.is ∙ ap (λ (xs : List Sent). get_or xs c.args.place c.index-products-place.result) c.as_slice-products.ensures) (rw (ap (λ (d : Standing). length d.products) c.self.view_is) c.requires.place) c.self.invariant.2 in
     let kept = c.corrections_keep_what_stands.ensures rows counts sent c.last_of-last.result c.letters_of-letters.result c.args.texts.now c.args.t stands c.self.invariant.1 before c.in_ok-correction.ensures.kept in
     let after : c.apply.new.self.rows ≡ rows_after rows c.args.t lines =
     c.apply.ensures.rows ∙ ap (λ (old : List Row). rows_after old c.args.t c.in_ok-correction.correction.lines) c.reserve.ensures.rows ∙ ap (rows_after rows c.args.t) c.in_ok-correction.ensures.plan.lines in

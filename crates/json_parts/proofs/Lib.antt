@@ -1,0 +1,4 @@
+pub mod Floats
+pub mod Lines
+pub mod NoneRead
+pub mod Zones
