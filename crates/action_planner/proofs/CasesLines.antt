@@ -19,8 +19,8 @@ use Rattle.event_life.specs.Periods.{ends_after, is_live, keeps_open, same_at}
 use Rattle.event_life.specs.Products.{row_at}
 use Rattle.hazard_board.specs.Board.{has_period}
 use Rattle.action_planner.specs.Placed.{Placed}
-use Rattle.action_planner.specs.Lines.{continuing_line, finish_lines, finishing_action, is_near_end, is_overlaid, joined_row, line_on, lines_in, minute_of, opening_action, printed_begin, put_line, put_line_on, put_period, put_period_on, restate_lines, routine_line}
-use Rattle.action_planner.specs.Offences.{has_row_by, is_gone, joins_by, was_left}
+use Rattle.action_planner.specs.Lines.{continuing_line, finish_lines, finishing_action, is_near_end, is_overlaid, joined_row, line_on, lines_in, minute_of, opening_action, printed_begin, line_of_put, put_line_on, period_of_put, period_of_put_on, restate_lines, routine_line}
+use Rattle.action_planner.specs.Offences.{has_row_by, is_gone, is_join_target, was_left}
 use Rattle.action_planner.specs.Cases.{Continues, IsAbsent, Finishes, FirstWhere, IsLive, IsUnderHigher, Prints, PrintsRow, PutSays, Restates, Says}
 use Rattle.action_planner.proofs.LawfulLists.{Has}
 use Rattle.action_planner.proofs.LawfulPlaced.{IsFit}
@@ -51,25 +51,25 @@ module _ (rows : List Row) (t : ℕ) where
 
   continued : (e : Event) (z : Place) (part : PutPart) (row : Row) → row_at rows e z ≡ Some row → IsLive t row → Continues rows t part (continuing_line t e part row)
   continued e z part row h live =
-      let begin = (put_period_on part t row).begin in
+      let begin = (period_of_put_on part t row).begin in
       record {
         row = row;
         there = ap (λ (y : Place). row_at rows e y) (row_at-parts rows e z row h).1 ∙ h;
         live = live;
         begin = begin;
         begins = first_from (nat_le row.period.begin t) row.period.begin (minute_of part.begin t) begin (le_Decides row.period.begin t) refl;
-        action = first_from (same_at t row.period (put_period_on part t row)) Con Ext _ (same_Decides t row.period (put_period_on part t row)) refl;
+        action = first_from (same_at t row.period (period_of_put_on part t row)) Con Ext _ (same_Decides t row.period (period_of_put_on part t row)) refl;
         printed = prints_from t begin;
         end = refl;
         flood = refl;
       }
 
   put_says : (e : Event) (z : Place) (part : PutPart) (target : Target) (o : Option Row) → part.target ≡ target → joined_row rows e z target ≡ o →
-      (joins_by target && has_row_by (is_lapsed t) (row_at rows e z)) ≡ false → PutSays rows t part target (put_line_on rows t e part z o)
+      (is_join_target target && has_row_by (is_lapsed t) (row_at rows e z)) ≡ false → PutSays rows t part target (put_line_on rows t e part z o)
   put_says e z part (Fresh h) None g j left = record { action = ap (opening_action rows t e part) g; begin = refl; end = refl; flood = refl }
   put_says e z part (Fresh h) (Some row) g j left = cc
   put_says e z part (Join d) None g j left =
-      inl (record { absent = absent_from (row_at rows e z) j; action = first_from (has_period rows e (put_period part t) t) Exa Exb _ (period_Decides rows t e part) (ap (opening_action rows t e part) g); begin = refl; end = refl; flood = refl })
+      inl (record { absent = absent_from (row_at rows e z) j; action = first_from (has_period rows e (period_of_put part t) t) Exa Exb _ (period_Decides rows t e part) (ap (opening_action rows t e part) g); begin = refl; end = refl; flood = refl })
   put_says e z part (Join d) (Some row) g j left =
       let p = going_from (row_at rows e z) row j in
       inr (continued e z part row p.0 ((live_Decides t row).0 (not_dead (row_at rows e z) t row p.0 p.1 left)))
@@ -77,7 +77,7 @@ module _ (rows : List Row) (t : ℕ) where
   -- the line of a put that goes on with a row
   continuing_is : (e : Event) (part : PutPart) (line : Line) → line.event ≡ e → (s : Continues rows t part line) → continuing_line t e part s.row ≡ line
   continuing_is e part line event s =
-      let begin : s.begin ≡ (put_period_on part t s.row).begin = first_to (nat_le s.row.period.begin t) s.row.period.begin (minute_of part.begin t) s.begin (le_Decides s.row.period.begin t) s.begins in
+      let begin : s.begin ≡ (period_of_put_on part t s.row).begin = first_to (nat_le s.row.period.begin t) s.row.period.begin (minute_of part.begin t) s.begin (le_Decides s.row.period.begin t) s.begins in
       let action : line.action ≡ cond (same_at t s.row.period (record { begin = s.begin; end = part.end })) Con Ext = first_to _ Con Ext line.action (same_Decides t s.row.period (record { begin = s.begin; end = part.end })) s.action in
       let printed : line.begin ≡ printed_begin s.begin t = prints_to t s.begin line.begin s.printed in
       same_line (continuing_line t e part s.row) line
@@ -92,15 +92,15 @@ module _ (rows : List Row) (t : ℕ) where
   opening_is e z part line a event zone by action begin end flood =
       same_line (put_line_on rows t e part z None) line (by ∙ sym action) (sym event) (sym zone) (sym begin) (sym end) (sym flood)
 
-  put_is : (e : Event) (z : Place) (part : PutPart) (target : Target) (line : Line) → part.target ≡ target → line.event ≡ e → line.zone ≡ z → PutSays rows t part target line → put_line rows t e part z ≡ line
+  put_is : (e : Event) (z : Place) (part : PutPart) (target : Target) (line : Line) → part.target ≡ target → line.event ≡ e → line.zone ≡ z → PutSays rows t part target line → line_of_put rows t e part z ≡ line
   put_is e z part (Fresh h) line g event zone s =
       ap (λ (x : Target). put_line_on rows t e part z (joined_row rows e z x)) g
       ∙ opening_is e z part line New event zone (ap (opening_action rows t e part) g) s.action s.begin s.end s.flood
   put_is e z part (Join d) line g event zone (inl s) =
-      let action : line.action ≡ cond (has_period rows line.event (put_period part t) t) Exa Exb = first_to _ Exa Exb line.action (period_Decides rows t line.event part) s.action in
+      let action : line.action ≡ cond (has_period rows line.event (period_of_put part t) t) Exa Exb = first_to _ Exa Exb line.action (period_Decides rows t line.event part) s.action in
       ap (λ (x : Target). put_line_on rows t e part z (joined_row rows e z x)) g
       ∙ ap (put_line_on rows t e part z) (absent_to (row_at rows e z) (subst IsAbsent (sym (found_at line e z (row_at rows line.event line.zone) event zone refl)) s.absent))
-      ∙ opening_is e z part line (cond (has_period rows e (put_period part t) t) Exa Exb) event zone (ap (opening_action rows t e part) g) (action ∙ ap (λ (x : Event). cond (has_period rows x (put_period part t) t) Exa Exb) event) s.begin s.end s.flood
+      ∙ opening_is e z part line (cond (has_period rows e (period_of_put part t) t) Exa Exb) event zone (ap (opening_action rows t e part) g) (action ∙ ap (λ (x : Event). cond (has_period rows x (period_of_put part t) t) Exa Exb) event) s.begin s.end s.flood
   put_is e z part (Join d) line g event zone (inr s) =
       ap (λ (x : Target). put_line_on rows t e part z (joined_row rows e z x)) g
       ∙ ap (put_line_on rows t e part z) (going_to (row_at rows e z) s.row (found_at line e z (Some s.row) event zone s.there) s.live.0)

@@ -25,7 +25,7 @@ use Rattle.event_life.specs.Bounds.{AreSame, IsBefore, IsNear}
 use Rattle.event_life.specs.Periods.{ends_after, is_not_long_past, is_live, keeps_open, overlaps, same_at, same_end}
 use Rattle.hazard_board.specs.Board.{has_period}
 use Rattle.action_planner.specs.Placed.{Placed, zones_of, touches, speaks}
-use Rattle.action_planner.specs.Lines.{follows, is_near_end, put_period}
+use Rattle.action_planner.specs.Lines.{follows, is_near_end, period_of_put}
 use Rattle.action_planner.specs.Conditions.{IsFollowedBy}
 use Rattle.action_planner.specs.Cases.{FirstWhere, HasPeriod, IsLive, IsNotLongAfter, Overlap, SpeaksOf}
 use Rattle.action_planner.proofs.LawfulLists.{Has, all_weaker, any_from, any_has, contains_from, has_any, none_from, none_of}
@@ -113,8 +113,8 @@ has_one_Decides : (t : ℕ) (e : Event) (p : Period) (row : Row) → Decides (sa
 has_one_Decides t e p row = Decides-like _ (λ h. (h.0.0, h.0.1, h.1)) (λ h. ((h.0, h.1), h.2))
     (Decides-and _ _ (Decides-and _ _ (event_decides row.event e) (live_Decides t row)) (same_Decides t row.period p))
 
-pub period_Decides : (rows : List Row) (t : ℕ) (e : Event) (part : PutPart) → Decides (has_period rows e (put_period part t) t) (HasPeriod rows t e part)
-period_Decides rows t e part = any_Decides (λ (r : Row). same_event r.event e && is_live t r && same_at t r.period (put_period part t)) (λ (r : Row). (r.event ≡ e) × IsLive t r × AreSame t r.period (put_period part t)) (has_one_Decides t e (put_period part t)) rows
+pub period_Decides : (rows : List Row) (t : ℕ) (e : Event) (part : PutPart) → Decides (has_period rows e (period_of_put part t) t) (HasPeriod rows t e part)
+period_Decides rows t e part = any_Decides (λ (r : Row). same_event r.event e && is_live t r && same_at t r.period (period_of_put part t)) (λ (r : Row). (r.event ≡ e) × IsLive t r × AreSame t r.period (period_of_put part t)) (has_one_Decides t e (period_of_put part t)) rows
 
 -- intents
 

@@ -22,7 +22,7 @@ use Rattle.hazard_board.specs.Clashes.{least_clash}
 use Rattle.hazard_board.specs.Consistent.{AreOfTheYear}
 use Rattle.hazard_board.proofs.NumberLemmas.{after_consistent, behind_hold}
 use Rattle.hazard_board.proofs.Turns.{lawful_taken}
-use Rattle.action_planner.specs.Corrections.{broken_correction, broken_on, corrected_lines, correcting, correction_rules, lineless}
+use Rattle.action_planner.specs.Corrections.{broken_correction, broken_on, corrected_lines, correcting, correction_rules, first_without_line}
 use Rattle.action_planner.specs.Lines.{line_on}
 use Rattle.action_planner.specs.Offences.{refused_clash}
 use Rattle.action_planner.specs.Standing.{IsKnown, Stands}
@@ -44,7 +44,7 @@ or_none None = refl
 or_none (Some x) = refl
 
 in_order : (rows : List Row) (t : ℕ) (sent : Sent) (last letters : ℕ) (given : List EventTexts) →
-    option_or (lineless sent.lines given) (broken_on rows t sent.number last letters (corrected_lines rows t sent.lines)) ≡ broken_correction rows t sent last letters given
+    option_or (first_without_line sent.lines given) (broken_on rows t sent.number last letters (corrected_lines rows t sent.lines)) ≡ broken_correction rows t sent last letters given
 unfolding broken_correction broken_on
 in_order rows t sent last letters given = sym (simp or_none)
 
@@ -52,10 +52,10 @@ module _ (rows : List Row) (t : ℕ) (sent : Sent) (last letters : ℕ) (given :
   abbrev these : List Line
   these = corrected_lines rows t sent.lines
 
-  pub text_named : (r : Refusal) → lineless sent.lines given ≡ Some r → broken_correction rows t sent last letters given ≡ Some r
+  pub text_named : (r : Refusal) → first_without_line sent.lines given ≡ Some r → broken_correction rows t sent last letters given ≡ Some r
   text_named r h = sym (in_order rows t sent last letters given) ∙ ap (λ (o : Option Refusal). option_or o (broken_on rows t sent.number last letters these)) h
 
-  pub other_named : (lines : List Line) (found : Option Refusal) → lines ≡ these → lineless sent.lines given ≡ None → found ≡ broken_on rows t sent.number last letters lines → broken_correction rows t sent last letters given ≡ found
+  pub other_named : (lines : List Line) (found : Option Refusal) → lines ≡ these → first_without_line sent.lines given ≡ None → found ≡ broken_on rows t sent.number last letters lines → broken_correction rows t sent last letters given ≡ found
   other_named lines found same early late =
       sym (in_order rows t sent last letters given)
       ∙ ap (λ (o : Option Refusal). option_or o (broken_on rows t sent.number last letters these)) early

@@ -18,7 +18,7 @@ use Rattle.office_types.specs.declared.request.Target.{Target}
 use Rattle.office_types.specs.declared.request.Target.TheVariants.{Fresh, Join}
 use Rattle.hazard_types.proofs.Equality.{category_decides, kind_decides}
 use Rattle.action_planner.specs.Conditions.{AreOfKind, AreZones, Fits, FitsTarget, IsFollowedBy, IsOpenedBy, MayHold}
-use Rattle.action_planner.specs.Fitting.{are_of_kind, are_zones, fits, fits_following, fits_target, may_hold, of_other_kind, opens_with, stand_once}
+use Rattle.action_planner.specs.Fitting.{are_of_kind, is_valid_zone_list, fits, fits_following, fits_target, may_hold, of_other_kind, opens_with, stand_once}
 use Rattle.action_planner.specs.Placed.{zones_of}
 use Rattle.action_planner.proofs.CasesWords.{category_told, follows_Decides, le_Decides}
 use Rattle.action_planner.proofs.LawfulLists.{all_weaker, find_none, no_find, none_from, none_of}
@@ -93,7 +93,7 @@ once_Decides (z ∷ zones) = (
   λ h. and_from _ _ (not_from_false _ (none_from (λ (y : Place). same_zone z y) zones h.0)) ((once_Decides zones).1 h.1),
 )
 
-pub zones_Decide : (zones : List Place) → Decides (are_zones zones) (AreZones zones)
+pub zones_Decide : (zones : List Place) → Decides (is_valid_zone_list zones) (AreZones zones)
 zones_Decide zones =
     let d = Decides-and _ _ (Decides-and _ _ (le_Decides 1 (length zones)) (le_Decides (length zones) 600)) (once_Decides zones) in (
       λ h. let p = d.0 h in record { some = p.0.0; few = p.0.1; once = p.1 },

@@ -12,9 +12,9 @@ use Rattle.office_types.specs.declared.refusal.Refusal.TheVariants.{NumberHeld}
 use Rattle.hazard_types.proofs.Equality.{event_one, event_itself, hazard_one, hazard_itself}
 use Rattle.event_life.specs.Periods.{keeps_open}
 use Rattle.event_life.specs.Printed.{IsOneEvent, HasOneOpen}
-use Rattle.event_life.specs.Products.{is_open, later_event, going_in}
+use Rattle.event_life.specs.Products.{is_open, later_event, latest_open_event}
 use Rattle.event_life.proofs.LivesLemmas.{find-passes}
-use Rattle.event_life.proofs.PrintedLemmas.{going_in-open}
+use Rattle.event_life.proofs.PrintedLemmas.{latest_open_event-open}
 use Rattle.hazard_board.specs.Consistent.{share_number, EachToLater, IsConsistent}
 use Rattle.action_planner.specs.Offences.{holds, held_by}
 
@@ -100,7 +100,7 @@ module _ (t : ℕ) (h : Hazard) (n : ℕ) where
       ] in
       step (is_of d r) refl
 
-  going_of_row : (rows : List Row) (d : Event) → going_in rows h n t ≡ Some d → list_any (is_of d) rows ≡ true
+  going_of_row : (rows : List Row) (d : Event) → latest_open_event rows h n t ≡ Some d → list_any (is_of d) rows ≡ true
   going_of_row rows d f =
       let step : (b : Bool) → list_any (is_of d) rows ≡ b → list_any (is_of d) rows ≡ true =
       λ b. elim b as (λ b. list_any (is_of d) rows ≡ b → list_any (is_of d) rows ≡ true) [
@@ -157,19 +157,19 @@ own_of t e d r h =
     let q = and_parts (same_hazard r.event.hazard e.hazard && (r.event.etn == e.etn)) _ p.0 in
     and_from _ _ p.1 q.1
 
-pub going_decides_open : (rows : List Row) (t : ℕ) (e : Event) → IsConsistent rows t → is_it e (going_in rows e.hazard e.etn t) ≡ is_open rows t e
+pub going_decides_open : (rows : List Row) (t : ℕ) (e : Event) → IsConsistent rows t → is_it e (latest_open_event rows e.hazard e.etn t) ≡ is_open rows t e
 going_decides_open rows t e h =
-    let step : (b : Bool) (o : Option Event) → is_open rows t e ≡ b → going_in rows e.hazard e.etn t ≡ o → is_it e o ≡ b =
-    λ b. elim b as (λ b. (o : Option Event) → is_open rows t e ≡ b → going_in rows e.hazard e.etn t ≡ o → is_it e o ≡ b) [
-      | true ↦ λ o f g. let same : o ≡ Some e = sym g ∙ going_in-open rows t e (one_open rows t h) f in rw same (event_itself e)
-      | false ↦ λ o. elim o as (λ o. is_open rows t e ≡ false → going_in rows e.hazard e.etn t ≡ o → is_it e o ≡ false) [
+    let step : (b : Bool) (o : Option Event) → is_open rows t e ≡ b → latest_open_event rows e.hazard e.etn t ≡ o → is_it e o ≡ b =
+    λ b. elim b as (λ b. (o : Option Event) → is_open rows t e ≡ b → latest_open_event rows e.hazard e.etn t ≡ o → is_it e o ≡ b) [
+      | true ↦ λ o f g. let same : o ≡ Some e = sym g ∙ latest_open_event-open rows t e (one_open rows t h) f in rw same (event_itself e)
+      | false ↦ λ o. elim o as (λ o. is_open rows t e ≡ false → latest_open_event rows e.hazard e.etn t ≡ o → is_it e o ≡ false) [
         | None ↦ λ f g. refl
         | Some d ↦ λ f g. false_from_ne_true (same_event d e) (λ k.
             let any = any_still (is_of t e.hazard e.etn d) (λ r. same_event r.event d && keeps_open t r) (own_of t e d) rows (going_of_row t e.hazard e.etn rows d g) in
             let no : true ≡ false = sym any ∙ subst (λ (x : Event). is_open rows t x ≡ false) (sym (event_one d e k)) f in cc)
       ]
     ] in
-    step (is_open rows t e) (going_in rows e.hazard e.etn t) refl refl
+    step (is_open rows t e) (latest_open_event rows e.hazard e.etn t) refl refl
 
 -- the number of an event is held by the going one, where that is of an earlier year
 
@@ -185,25 +185,25 @@ holds_from t e d early r h =
     and_from _ _ (and_from _ _ q.0 year) q.1
 
 holder_going : (rows : List Row) (t : ℕ) (e : Event) (r : Row) → IsConsistent rows t → find (holds t e) rows ≡ Some r →
-    (going_in rows e.hazard e.etn t ≡ Some r.event) × (nat_lt r.event.year e.year ≡ true)
+    (latest_open_event rows e.hazard e.etn t ≡ Some r.event) × (nat_lt r.event.year e.year ≡ true)
 holder_going rows t e r h found =
     let p = and_parts (same_hazard r.event.hazard e.hazard && (r.event.etn == e.etn) && nat_lt r.event.year e.year) _ (find-passes (holds t e) rows r found) in
     let q = and_parts (same_hazard r.event.hazard e.hazard && (r.event.etn == e.etn)) _ p.0 in
     let s = and_parts (same_hazard r.event.hazard e.hazard) _ q.0 in
     let own : (same_event r.event r.event && keeps_open t r) ≡ true = and_from _ _ (event_itself r.event) p.1 in
     let any = row_found (holds t e) (λ s. same_event s.event r.event && keeps_open t s) rows r found own in
-    let going = going_in-open rows t r.event (one_open rows t h) any in
+    let going = latest_open_event-open rows t r.event (one_open rows t h) any in
     let same_h = hazard_one r.event.hazard e.hazard s.0 in
     let same_n = eqb-true r.event.etn e.etn s.1 in
-    let moved : going_in rows r.event.hazard r.event.etn t ≡ going_in rows e.hazard e.etn t = λ i. going_in rows (same_h i) (same_n i) t in
+    let moved : latest_open_event rows r.event.hazard r.event.etn t ≡ latest_open_event rows e.hazard e.etn t = λ i. latest_open_event rows (same_h i) (same_n i) t in
     (sym moved ∙ going, q.1)
 
-pub going_is_the_holder : (rows : List Row) (t : ℕ) (e : Event) → IsConsistent rows t → held_if_earlier e (going_in rows e.hazard e.etn t) ≡ option_map held_by (find (holds t e) rows)
+pub going_is_the_holder : (rows : List Row) (t : ℕ) (e : Event) → IsConsistent rows t → held_if_earlier e (latest_open_event rows e.hazard e.etn t) ≡ option_map held_by (find (holds t e) rows)
 going_is_the_holder rows t e h =
-    let step : (f : Option Row) (o : Option Event) → find (holds t e) rows ≡ f → going_in rows e.hazard e.etn t ≡ o → held_if_earlier e o ≡ option_map held_by f =
-    λ f. elim f as (λ f. (o : Option Event) → find (holds t e) rows ≡ f → going_in rows e.hazard e.etn t ≡ o → held_if_earlier e o ≡ option_map held_by f) [
+    let step : (f : Option Row) (o : Option Event) → find (holds t e) rows ≡ f → latest_open_event rows e.hazard e.etn t ≡ o → held_if_earlier e o ≡ option_map held_by f =
+    λ f. elim f as (λ f. (o : Option Event) → find (holds t e) rows ≡ f → latest_open_event rows e.hazard e.etn t ≡ o → held_if_earlier e o ≡ option_map held_by f) [
       | Some r ↦ λ o found g. let p = holder_going rows t e r h found in let same : o ≡ Some r.event = sym g ∙ p.0 in rw (same, p.1)
-      | None ↦ λ o. elim o as (λ o. find (holds t e) rows ≡ None → going_in rows e.hazard e.etn t ≡ o → held_if_earlier e o ≡ None) [
+      | None ↦ λ o. elim o as (λ o. find (holds t e) rows ≡ None → latest_open_event rows e.hazard e.etn t ≡ o → held_if_earlier e o ≡ None) [
         | None ↦ λ found g. refl
         | Some d ↦ λ found g.
             let early : nat_lt d.year e.year ≡ false = false_from_ne_true (nat_lt d.year e.year) (λ k.
@@ -212,4 +212,4 @@ going_is_the_holder rows t e h =
             rw early
       ]
     ] in
-    step (find (holds t e) rows) (going_in rows e.hazard e.etn t) refl refl
+    step (find (holds t e) rows) (latest_open_event rows e.hazard e.etn t) refl refl

@@ -24,7 +24,7 @@ use Rattle.event_life.proofs.Keys.{key_ties}
 use Rattle.event_life.proofs.Puts.{at_key, at_key-parts, concerns-parts}
 use Rattle.hazard_board.specs.Board.{has_period}
 use Rattle.action_planner.specs.Placed.{Placed, zones_of, touches, speaks}
-use Rattle.action_planner.specs.Lines.{is_near_end, is_overlaid, put_period, put_period_on, opening_action, joined_row, put_line_on, put_line, line_on, finish_lines, restate_lines, lines_in, lines_in_zones, lines_from, goes_on, is_continued, added_lines, planned_lines}
+use Rattle.action_planner.specs.Lines.{is_near_end, is_overlaid, period_of_put, period_of_put_on, opening_action, joined_row, put_line_on, line_of_put, line_on, finish_lines, restate_lines, lines_in, lines_in_zones, lines_from, goes_on, is_continued, added_lines, planned_lines}
 use Rattle.action_planner.specs.Offences.{is_shared}
 use Rattle.action_planner.proofs.LawfulLists.{EachPair, Has, all_append, all_both, all_each, all_weaker, all_filter, all_has, all_map, any_has, has_all, pair_append, pair_filter, pair_map, pair_weaker, pairs_from}
 use Rattle.action_planner.proofs.LawfulPlaced.{IsFit}
@@ -75,17 +75,17 @@ restate_never test P con t (Some row) = (λ h. absurd (both_ways _ con h), tt)
 
 opening_action-none : (f : Action → Bool) → f New ≡ false → f Exa ≡ false → f Exb ≡ false → (rows : List Row) (t : ℕ) (e : Event) (part : PutPart) (target : Target) → f (opening_action rows t e part target) ≡ false
 opening_action-none f n a b rows t e part (Fresh h) = n
-opening_action-none f n a b rows t e part (Join d) = either_action f (has_period rows e (put_period part t) t) Exa Exb a b
+opening_action-none f n a b rows t e part (Join d) = either_action f (has_period rows e (period_of_put part t) t) Exa Exb a b
 
 -- a put's line has one of five actions
 pub put_action-none : (f : Action → Bool) → f New ≡ false → f Exa ≡ false → f Exb ≡ false → f Con ≡ false → f Ext ≡ false → (rows : List Row) (t : ℕ) (e : Event) (part : PutPart) (z : Place) (o : Option Row) → f (put_line_on rows t e part z o).action ≡ false
 put_action-none f n a b c x rows t e part z None = opening_action-none f n a b rows t e part part.target
-put_action-none f n a b c x rows t e part z (Some row) = either_action f (same_at t row.period (put_period_on part t row)) Con Ext c x
+put_action-none f n a b c x rows t e part z (Some row) = either_action f (same_at t row.period (period_of_put_on part t row)) Con Ext c x
 
-pub put-no_upgrade : (rows : List Row) (t : ℕ) (e : Event) (part : PutPart) (z : Place) → is_upgrade (put_line rows t e part z).action ≡ false
+pub put-no_upgrade : (rows : List Row) (t : ℕ) (e : Event) (part : PutPart) (z : Place) → is_upgrade (line_of_put rows t e part z).action ≡ false
 put-no_upgrade rows t e part z = put_action-none is_upgrade refl refl refl refl refl rows t e part z (joined_row rows e z part.target)
 
-pub put-no_routine : (rows : List Row) (t : ℕ) (e : Event) (part : PutPart) (z : Place) → is_routine (put_line rows t e part z).action ≡ false
+pub put-no_routine : (rows : List Row) (t : ℕ) (e : Event) (part : PutPart) (z : Place) → is_routine (line_of_put rows t e part z).action ≡ false
 put-no_routine rows t e part z = put_action-none is_routine refl refl refl refl refl rows t e part z (joined_row rows e z part.target)
 
 joined_zone : (rows : List Row) (e : Event) (z : Place) (target : Target) (row : Row) → joined_row rows e z target ≡ Some row → row.zone ≡ z

@@ -12,7 +12,7 @@ use Rattle.office_types.specs.declared.refusal.Refusal.{Refusal}
 use Rattle.office_types.specs.declared.request.Intent.{Intent}
 use Rattle.office_types.specs.declared.request.Intent.TheVariants.{Put, Finish, Restate, Routine}
 use Rattle.event_life.specs.Periods.{ends_after, is_live, keeps_open}
-use Rattle.event_life.specs.Products.{by_key, has_rows, is_held, is_open, row_at}
+use Rattle.event_life.specs.Products.{by_key, has_rows, is_number_held, is_open, row_at}
 use Rattle.event_life.proofs.Puts.{at_key}
 use Rattle.action_planner.specs.Placed.{Placed, zones_of, is_opening}
 use Rattle.action_planner.specs.Lines.{line_on, finish_lines, restate_lines, lines_in, lines_in_zones, lines_from, goes_on, is_continued, added_lines, planned_lines}
@@ -48,7 +48,7 @@ module _ (rows : List Row) (t : ℕ) (all : List Placed) (long : AllByRecursion 
       let lasts : LastsLong row = all_has LastsLong rows row long (found_has (at_key e z) rows row h) in
       (con_sound rows t row (row_at-own rows e z row h) (not-false _ there) lasts, tt)
 
-  sound_in : (place : ℕ) (e : Event) (i : Intent) (z : Place) → (is_opening i ≡ true → has_rows rows e ≡ false) → (is_opening i ≡ true → is_held rows t e ≡ false) → (needs_event i ≡ true → is_open rows t e ≡ true) →
+  sound_in : (place : ℕ) (e : Event) (i : Intent) (z : Place) → (is_opening i ≡ true → has_rows rows e ≡ false) → (is_opening i ≡ true → is_number_held rows t e ≡ false) → (needs_event i ≡ true → is_open rows t e ≡ true) →
       bad_period_of t place i ≡ None → is_gone rows t e i z ≡ false → was_left rows t e i z ≡ false → AllByRecursion (IsSound rows t) (lines_in rows t all e i z)
   sound_in place e (Put part) z new free going period there live = (put_sound rows t e part z (λ o. (new o, free o)) (λ o. going (not_from_false _ o)) (not_bad (is_bad_period part t) _ period) live, tt)
   sound_in place e (Finish part) z new free going period there live = finish_in e z (row_at rows e z) refl there

@@ -20,7 +20,7 @@ use Rattle.hazard_types.specs.declared.codes.Category.{Category}
 use Rattle.office_types.specs.declared.request.PutPart.{PutPart}
 use Rattle.event_life.specs.Periods.{same_at}
 use Rattle.hazard_board.specs.Board.{has_period}
-use Rattle.action_planner.specs.Lines.{added_lines, is_continued, joined_row, line_on, lines_from, lines_in, lines_in_zones, opening_action, planned_lines, put_line, put_line_on, put_period, put_period_on, unless_ended}
+use Rattle.action_planner.specs.Lines.{added_lines, is_continued, joined_row, line_on, lines_from, lines_in, lines_in_zones, opening_action, planned_lines, line_of_put, put_line_on, period_of_put, period_of_put_on, unless_ended}
 use Rattle.action_planner.specs.Conditions.{CanPlan, MayHold}
 use Rattle.action_planner.proofs.LawfulLists.{Has, all_append, all_each, all_map, all_weaker, any_from, contains_from, has_all, has_filter, has_left, has_map, has_right, kept, map_has}
 use Rattle.action_planner.proofs.LawfulKeys.{IsOn, each_intent, each_zone, either_action, finish_never, lines_on, restate_never}
@@ -175,17 +175,17 @@ years_of_issue counts t earlier (i ∷ intents) =
 
 opening_new : (rows : List Row) (t : ℕ) (e : Event) (part : PutPart) (target : Target) → is_new (opening_action rows t e part target) ≡ is_opening_target target
 opening_new rows t e part (Fresh h) = refl
-opening_new rows t e part (Join d) = either_action is_new (has_period rows e (put_period part t) t) Exa Exb refl refl
+opening_new rows t e part (Join d) = either_action is_new (has_period rows e (period_of_put part t) t) Exa Exb refl refl
 
 put_new : (rows : List Row) (t : ℕ) (e : Event) (part : PutPart) (z : Place) (o : Option Row) → is_new (put_line_on rows t e part z o).action ≡ true → is_opening_target part.target ≡ true
 put_new rows t e part z None h = sym (opening_new rows t e part part.target) ∙ h
-put_new rows t e part z (Some row) h = absurd (both_ways _ (either_action is_new (same_at t row.period (put_period_on part t row)) Con Ext refl refl) h)
+put_new rows t e part z (Some row) h = absurd (both_ways _ (either_action is_new (same_at t row.period (period_of_put_on part t row)) Con Ext refl refl) h)
 
 new_by : (rows : List Row) (e : Event) (z : Place) (target : Target) → is_opening_target target ≡ true → joined_row rows e z target ≡ None
 new_by rows e z (Fresh h) o = refl
 new_by rows e z (Join d) o = cc
 
-new_put : (rows : List Row) (t : ℕ) (e : Event) (part : PutPart) (z : Place) → is_opening_target part.target ≡ true → is_new (put_line rows t e part z).action ≡ true
+new_put : (rows : List Row) (t : ℕ) (e : Event) (part : PutPart) (z : Place) → is_opening_target part.target ≡ true → is_new (line_of_put rows t e part z).action ≡ true
 new_put rows t e part z o =
     ap (λ (x : Option Row). is_new (put_line_on rows t e part z x).action) (new_by rows e z part.target o) ∙ opening_new rows t e part part.target ∙ o
 
@@ -196,7 +196,7 @@ module _ (rows : List Row) (t : ℕ) (all : List Placed) where
   opened_in : (e : Event) (i : Intent) (z : Place) → (is_opening i ≡ true → Has (opened all) e) → AllByRecursion IsOpened (lines_in rows t all e i z)
   opened_in e (Put part) z own = (
     λ h.
-        let on : IsOn e z (put_line rows t e part z) = (lines_on rows t all e (Put part) z).0 in
+        let on : IsOn e z (line_of_put rows t e part z) = (lines_on rows t all e (Put part) z).0 in
         let there : Has (opened all) e = own (put_new rows t e part z (joined_row rows e z part.target) h) in
         subst (λ (x : Event). Has (opened all) x) (sym on.0) there,
     tt,
@@ -220,8 +220,8 @@ module _ (rows : List Row) (t : ℕ) (all : List Placed) where
   new_zone : (e : Event) (i : Intent) → is_opening i ≡ true → (zones : List Place) → 1 ≤ length zones → HasNew (lines_in_zones rows t all e i zones) e
   new_zone e (Put part) o [] some = absurd (omega (arith, some))
   new_zone e (Put part) o (z ∷ zones) some =
-      let on : IsOn e z (put_line rows t e part z) = (lines_on rows t all e (Put part) z).0 in
-      (put_line rows t e part z, inl refl, new_put rows t e part z o, on.0)
+      let on : IsOn e z (line_of_put rows t e part z) = (lines_on rows t all e (Put part) z).0 in
+      (line_of_put rows t e part z, inl refl, new_put rows t e part z o, on.0)
   new_zone e (Finish part) o zones some = cc
   new_zone e (Restate part) o zones some = cc
   new_zone e (Routine part) o zones some = cc

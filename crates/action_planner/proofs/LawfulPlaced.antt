@@ -16,7 +16,7 @@ use Rattle.office_types.specs.declared.request.Intent.{Intent}
 use Rattle.office_types.specs.declared.request.Intent.TheVariants.{Put, Finish, Restate, Routine}
 use Rattle.office_types.specs.declared.request.Target.{Target}
 use Rattle.office_types.specs.declared.request.Target.TheVariants.{Fresh, Join}
-use Rattle.event_life.specs.Products.{has_rows, is_held, is_open}
+use Rattle.event_life.specs.Products.{has_rows, is_number_held, is_open}
 use Rattle.event_numbers.specs.declared.Count.{Count}
 use Rattle.event_numbers.specs.Counts.{count_of}
 use Rattle.action_planner.specs.Placed.{Placed, placed, placed_from, event_of_intent, event_of_target, new_event, is_opening, is_opening_target, zones_of}
@@ -27,7 +27,7 @@ use Rattle.action_planner.proofs.LawfulLists.{EachPair, find_none, none_from}
 -- an intent of which no rule is broken
 pub record IsFit (rows : List Row) (t : ℕ) (all : List Placed) (p : Placed) : Type 0 where
   pub new : is_opening p.intent ≡ true → has_rows rows p.event ≡ false
-  pub free : is_opening p.intent ≡ true → is_held rows t p.event ≡ false
+  pub free : is_opening p.intent ≡ true → is_number_held rows t p.event ≡ false
   pub known : needs_event p.intent ≡ true → is_open rows t p.event ≡ true
   pub period : bad_period t p ≡ None
   pub there : AllByRecursion (λ z. is_gone rows t p.event p.intent z ≡ false) (zones_of p.intent)
@@ -63,7 +63,7 @@ open_by wanted true e h o = refl
 open_by true false e h o = cc
 open_by false false e h o = cc
 
-held_by_none : (rows : List Row) (t : ℕ) (e : Event) (opening : Bool) → cond opening (option_map held_by (find (holds t e) rows)) None ≡ None → opening ≡ true → is_held rows t e ≡ false
+held_by_none : (rows : List Row) (t : ℕ) (e : Event) (opening : Bool) → cond opening (option_map held_by (find (holds t e) rows)) None ≡ None → opening ≡ true → is_number_held rows t e ≡ false
 held_by_none rows t e true h o = none_from (holds t e) rows (find_none (holds t e) rows (map_none held_by (find (holds t e) rows) h))
 held_by_none rows t e false h o = cc
 

@@ -19,15 +19,15 @@ use Rattle.event_life.specs.declared.life.Around.{Around}
 use Rattle.event_life.specs.declared.life.Breach.{Breach}
 use Rattle.event_life.specs.declared.life.Breach.TheVariants.{TooEarly, PeriodMoved, PeriodSame, TooLate, NoHigher}
 use Rattle.event_life.specs.Periods.{ends_after, is_not_long_past, is_live, keeps_open, same_at, same_end}
-use Rattle.event_life.specs.Table.{first_of, on_continuing, on_ending, prints_begin_as_due, moves_begin, prints_past, prints_later, expires_early, expires_late, cancels_late, continued_period, stays, breach_of_line}
-use Rattle.event_life.specs.Products.{around_but_higher, has_rows, is_held, is_open, is_upgrade, life_at, life_of, row_at}
+use Rattle.event_life.specs.Table.{first_of, on_continuing, on_ending, prints_begin_as_due, moves_begin, prints_begun, prints_to_come, expires_early, expires_late, cancels_late, continued_period, keeps_period, breach_of_line}
+use Rattle.event_life.specs.Products.{around_but_higher, has_rows, is_number_held, is_open, is_upgrade, life_at, life_of, row_at}
 use Rattle.event_life.proofs.Puts.{at_key, at_key-parts}
 use Rattle.hazard_board.specs.Board.{has_period}
 use Rattle.office_types.specs.declared.request.Intent.TheVariants.{Put}
 use Rattle.action_planner.specs.Placed.{Placed, is_opening_target}
 use Rattle.action_planner.specs.Cases.{IsAbsent}
-use Rattle.action_planner.specs.Lines.{minute_of, put_period, put_period_on, printed_begin, opening_action, continuing_line, unless_ended, joined_row, put_line_on, put_line, line_on, is_near_end, is_overlaid, finishing_action, routine_line}
-use Rattle.action_planner.specs.Offences.{is_bad_period, has_row_by, joins_by, was_left}
+use Rattle.action_planner.specs.Lines.{minute_of, period_of_put, period_of_put_on, printed_begin, opening_action, continuing_line, unless_ended, joined_row, put_line_on, line_of_put, line_on, is_near_end, is_overlaid, finishing_action, routine_line}
+use Rattle.action_planner.specs.Offences.{is_bad_period, has_row_by, is_join_target, was_left}
 use Rattle.action_planner.proofs.LawfulLists.{found, none_of, no_find, all_weaker}
 
 -- the line has no breach, whatever is said of a higher row; only UPG needs one
@@ -93,7 +93,7 @@ period_parts part t h =
     let q = and_parts (ends_after part.end (minute_of part.begin t)) _ (not-false _ p.1) in
     (p.0, q.0, q.1)
 
-joining_sound : (rows : List Row) (t : ℕ) (e : Event) (part : PutPart) (z : Place) (same : Bool) (o : Option Row) → has_period rows e (put_period part t) t ≡ same →
+joining_sound : (rows : List Row) (t : ℕ) (e : Event) (part : PutPart) (z : Place) (same : Bool) (o : Option Row) → has_period rows e (period_of_put part t) t ≡ same →
     is_open rows t e ≡ true → row_at rows e z ≡ o → IsAbsent o → is_bad_period part t ≡ false →
     IsSound rows t (record { action = cond same Exa Exb; event = e; zone = z; begin = Some (minute_of part.begin t); end = part.end; flood = part.flood })
 unfolding breach_of_line
@@ -111,7 +111,7 @@ joining_sound rows t e part z false (Some row) same going at away ok b u =
     rw (at, away, going, p.0, p.1, same) refl
 
 pub opening_sound : (rows : List Row) (t : ℕ) (e : Event) (part : PutPart) (z : Place) (target : Target) →
-    (is_opening_target target ≡ true → (has_rows rows e ≡ false) × (is_held rows t e ≡ false)) → (is_opening_target target ≡ false → is_open rows t e ≡ true) →
+    (is_opening_target target ≡ true → (has_rows rows e ≡ false) × (is_number_held rows t e ≡ false)) → (is_opening_target target ≡ false → is_open rows t e ≡ true) →
     joined_row rows e z target ≡ None → is_bad_period part t ≡ false →
     IsSound rows t (record { action = opening_action rows t e part target; event = e; zone = z; begin = Some (minute_of part.begin t); end = part.end; flood = part.flood })
 unfolding breach_of_line
@@ -120,7 +120,7 @@ opening_sound rows t e part z (Fresh h) new going none ok b u =
     let p = period_parts part t ok in
     rw (no_row rows e z n.0, n.0, n.1, p.0, p.1) refl
 opening_sound rows t e part z (Join d) new going none ok b u =
-    joining_sound rows t e part z (has_period rows e (put_period part t) t) (row_at rows e z) refl (going refl) refl (absent_from (row_at rows e z) none) ok b u
+    joining_sound rows t e part z (has_period rows e (period_of_put part t) t) (row_at rows e z) refl (going refl) refl (absent_from (row_at rows e z) none) ok b u
 
 -- CON, EXT
 
@@ -135,11 +135,11 @@ printed_some : (m t : ℕ) → nat_le m t ≡ false → printed_begin m t ≡ So
 printed_some m t h = rw h refl
 
 -- the begin is printed where it is after the minute, and only there
-not_past_by : (m t : ℕ) (b : Bool) → nat_le m t ≡ b → prints_past (printed_begin m t) t ≡ false
+not_past_by : (m t : ℕ) (b : Bool) → nat_le m t ≡ b → prints_begun (printed_begin m t) t ≡ false
 not_past_by m t true h = rw h refl
 not_past_by m t false h = rw h h
 
-not_past : (m t : ℕ) → prints_past (printed_begin m t) t ≡ false
+not_past : (m t : ℕ) → prints_begun (printed_begin m t) t ≡ false
 not_past m t = not_past_by m t (nat_le m t) refl
 
 -- the begin that a put's line leaves is the one that the put gives
@@ -148,9 +148,9 @@ begin_by own b t true y h g ok = rw (printed_none own t h) (let le = leb-true ow
 begin_by own b t false true h g ok = rw (printed_none b t g) (let gt = leb-false own t h in let le = leb-true b t g in let ge = ltb-false b t ok in omega (arith, gt, le, ge))
 begin_by own b t false false h g ok = rw (printed_some b t g) refl
 
-not_moved_by : (own b t : ℕ) (x : Bool) → nat_le own t ≡ x → (prints_later (printed_begin (cond x own b) t) t && x) ≡ false
+not_moved_by : (own b t : ℕ) (x : Bool) → nat_le own t ≡ x → (prints_to_come (printed_begin (cond x own b) t) t && x) ≡ false
 not_moved_by own b t true h = rw (printed_none own t h) refl
-not_moved_by own b t false h = and_right (prints_later (printed_begin b t) t) false refl
+not_moved_by own b t false h = and_right (prints_to_come (printed_begin b t) t) false refl
 
 ends_by : (own b t : ℕ) (end : End) (x : Bool) → nat_le own t ≡ x → ends_after end b ≡ true → ends_after end t ≡ true → ends_after end (cond x own b) ≡ true
 ends_by own b t end true h e f = ends_earlier end own t (leb-true own t h) f
@@ -160,7 +160,7 @@ live_parts : (t : ℕ) (row : Row) → is_live t row ≡ true → (row.ended ≡
 live_parts t row h = let p = and_parts (not row.ended) _ h in (not-true row.ended p.0, p.1)
 
 -- the period that a put's line leaves is the one that the put gives
-pub continued_by_put : (t : ℕ) (e : Event) (part : PutPart) (row : Row) → is_bad_period part t ≡ false → continued_period (life_of row) (continuing_line t e part row) t ≡ put_period_on part t row
+pub continued_by_put : (t : ℕ) (e : Event) (part : PutPart) (row : Row) → is_bad_period part t ≡ false → continued_period (life_of row) (continuing_line t e part row) t ≡ period_of_put_on part t row
 continued_by_put t e part row ok =
     let p = period_parts part t ok in
     let same = begin_by row.period.begin (minute_of part.begin t) t (nat_le row.period.begin t) (nat_le (minute_of part.begin t) t) refl refl p.0 in
@@ -179,23 +179,23 @@ continuing_parts rows t e part row last live ok l =
     none_first (on_continuing (life_of row) (continuing_line t e part row) t last)
     (first, (not_past (cond x own b) t, (not_moved_by own b t x refl, (not_from_true _ (and_from _ _ left p.2), (l, tt)))))
 
-continuing_by : (rows : List Row) (t : ℕ) (e : Event) (part : PutPart) (row : Row) (same : Bool) → same_at t row.period (put_period_on part t row) ≡ same → is_live t row ≡ true → is_bad_period part t ≡ false → (b : Bool) →
+continuing_by : (rows : List Row) (t : ℕ) (e : Event) (part : PutPart) (row : Row) (same : Bool) → same_at t row.period (period_of_put_on part t row) ≡ same → is_live t row ≡ true → is_bad_period part t ≡ false → (b : Bool) →
     breach_of_line (Some (life_of row)) (continuing_line t e part row) t (around_but_higher rows t (continuing_line t e part row) b) ≡ None
 unfolding breach_of_line
 continuing_by rows t e part row true same live ok b =
-    let still : stays (life_of row) (continuing_line t e part row) t ≡ true = ap (same_at t row.period) (continued_by_put t e part row ok) ∙ same in
-    rw same (continuing_parts rows t e part row (not (stays (life_of row) (continuing_line t e part row) t), PeriodMoved) live ok (not_from_true _ still))
+    let still : keeps_period (life_of row) (continuing_line t e part row) t ≡ true = ap (same_at t row.period) (continued_by_put t e part row ok) ∙ same in
+    rw same (continuing_parts rows t e part row (not (keeps_period (life_of row) (continuing_line t e part row) t), PeriodMoved) live ok (not_from_true _ still))
 continuing_by rows t e part row false same live ok b =
-    let still : stays (life_of row) (continuing_line t e part row) t ≡ false = ap (same_at t row.period) (continued_by_put t e part row ok) ∙ same in
-    rw same (continuing_parts rows t e part row (stays (life_of row) (continuing_line t e part row) t, PeriodSame) live ok still)
+    let still : keeps_period (life_of row) (continuing_line t e part row) t ≡ false = ap (same_at t row.period) (continued_by_put t e part row ok) ∙ same in
+    rw same (continuing_parts rows t e part row (keeps_period (life_of row) (continuing_line t e part row) t, PeriodSame) live ok still)
 
 pub continuing_sound : (rows : List Row) (t : ℕ) (e : Event) (z : Place) (part : PutPart) (row : Row) → row_at rows e z ≡ Some row → is_live t row ≡ true → is_bad_period part t ≡ false → IsSound rows t (continuing_line t e part row)
 continuing_sound rows t e z part row h live ok b u =
     let p = row_at-parts rows e z row h in
     let here : row_at rows e row.zone ≡ Some row = ap (λ (y : Place). row_at rows e y) p.1 ∙ h in
-    rw here (continuing_by rows t e part row (same_at t row.period (put_period_on part t row)) refl live ok b)
+    rw here (continuing_by rows t e part row (same_at t row.period (period_of_put_on part t row)) refl live ok b)
 
-joined_parts : (rows : List Row) (e : Event) (z : Place) (target : Target) (row : Row) → joined_row rows e z target ≡ Some row → (joins_by target ≡ true) × (row_at rows e z ≡ Some row) × (row.ended ≡ false)
+joined_parts : (rows : List Row) (e : Event) (z : Place) (target : Target) (row : Row) → joined_row rows e z target ≡ Some row → (is_join_target target ≡ true) × (row_at rows e z ≡ Some row) × (row.ended ≡ false)
 joined_parts rows e z (Fresh h) row g = cc
 joined_parts rows e z (Join d) row g = let p = going_from (row_at rows e z) row g in (refl, p.0, p.1)
 
@@ -215,7 +215,7 @@ not_dead (Some r) t row e going h =
 
 -- a put's line in a zone
 put_by : (rows : List Row) (t : ℕ) (e : Event) (part : PutPart) (z : Place) (o : Option Row) → joined_row rows e z part.target ≡ o →
-    (is_opening_target part.target ≡ true → (has_rows rows e ≡ false) × (is_held rows t e ≡ false)) → (is_opening_target part.target ≡ false → is_open rows t e ≡ true) →
+    (is_opening_target part.target ≡ true → (has_rows rows e ≡ false) × (is_number_held rows t e ≡ false)) → (is_opening_target part.target ≡ false → is_open rows t e ≡ true) →
     is_bad_period part t ≡ false → was_left rows t e (Put part) z ≡ false → IsSound rows t (put_line_on rows t e part z o)
 put_by rows t e part z None h new going ok live = opening_sound rows t e part z part.target new going h ok
 put_by rows t e part z (Some row) h new going ok live =
@@ -224,8 +224,8 @@ put_by rows t e part z (Some row) h new going ok live =
     continuing_sound rows t e z part row j.1 (not_dead (row_at rows e z) t row j.1 j.2 dead) ok
 
 pub put_sound : (rows : List Row) (t : ℕ) (e : Event) (part : PutPart) (z : Place) →
-    (is_opening_target part.target ≡ true → (has_rows rows e ≡ false) × (is_held rows t e ≡ false)) → (is_opening_target part.target ≡ false → is_open rows t e ≡ true) →
-    is_bad_period part t ≡ false → was_left rows t e (Put part) z ≡ false → IsSound rows t (put_line rows t e part z)
+    (is_opening_target part.target ≡ true → (has_rows rows e ≡ false) × (is_number_held rows t e ≡ false)) → (is_opening_target part.target ≡ false → is_open rows t e ≡ true) →
+    is_bad_period part t ≡ false → was_left rows t e (Put part) z ≡ false → IsSound rows t (line_of_put rows t e part z)
 put_sound rows t e part z = put_by rows t e part z (joined_row rows e z part.target) refl
 
 -- CON of a row as it is
@@ -234,9 +234,9 @@ own_begin_by : (m t : ℕ) (x : Bool) → nat_le m t ≡ x → unwrap_or (printe
 own_begin_by m t true h = rw h (let le = leb-true m t h in omega (arith, le))
 own_begin_by m t false h = rw h refl
 
-own_moved_by : (m t : ℕ) (x : Bool) → nat_le m t ≡ x → (prints_later (printed_begin m t) t && nat_le m t) ≡ false
+own_moved_by : (m t : ℕ) (x : Bool) → nat_le m t ≡ x → (prints_to_come (printed_begin m t) t && nat_le m t) ≡ false
 own_moved_by m t true h = rw h refl
-own_moved_by m t false h = and_right (prints_later (printed_begin m t) t) (nat_le m t) h
+own_moved_by m t false h = and_right (prints_to_come (printed_begin m t) t) (nat_le m t) h
 
 -- the row goes on with its period
 pub continued_as_is : (t : ℕ) (row : Row) → continued_period (life_of row) (line_on Con t row) t ≡ row.period
@@ -251,14 +251,14 @@ same_at-itself t p = and_from _ _ (same_end-itself p.end) (rw (eq-eqb p.begin p.
 
 -- a line that says of a live row what it is keeps the period
 kept_sound : (action : Action) (t : ℕ) (row : Row) → is_live t row ≡ true → ends_after row.period.end row.period.begin ≡ true →
-    first_of (on_continuing (life_of row) (line_on action t row) t (not (stays (life_of row) (line_on action t row) t), PeriodMoved)) ≡ None
+    first_of (on_continuing (life_of row) (line_on action t row) t (not (keeps_period (life_of row) (line_on action t row) t), PeriodMoved)) ≡ None
 kept_sound action t row live long =
     let v = live_parts t row live in
     let m = row.period.begin in
     let first : (row.ended || not (ends_after row.period.end t)) ≡ false = or_from row.ended _ v.0 (not_from_true _ v.1) in
     let left : ends_after row.period.end (continued_period (life_of row) (line_on action t row) t).begin ≡ true = ap (λ (q : Period). ends_after row.period.end q.begin) (continued_as_is t row) ∙ long in
-    let still : stays (life_of row) (line_on action t row) t ≡ true = ap (same_at t row.period) (continued_as_is t row) ∙ same_at-itself t row.period in
-    none_first (on_continuing (life_of row) (line_on action t row) t (not (stays (life_of row) (line_on action t row) t), PeriodMoved))
+    let still : keeps_period (life_of row) (line_on action t row) t ≡ true = ap (same_at t row.period) (continued_as_is t row) ∙ same_at-itself t row.period in
+    none_first (on_continuing (life_of row) (line_on action t row) t (not (keeps_period (life_of row) (line_on action t row) t), PeriodMoved))
     (first, (not_past m t, (own_moved_by m t (nat_le m t) refl, (not_from_true _ (and_from _ _ left v.1), (not_from_true _ still, tt)))))
 
 pub con_sound : (rows : List Row) (t : ℕ) (row : Row) → row_at rows row.event row.zone ≡ Some row → is_live t row ≡ true → ends_after row.period.end row.period.begin ≡ true → IsSound rows t (line_on Con t row)

@@ -27,7 +27,7 @@ use Rattle.event_life.specs.Products.{by_key, has_higher, is_overlapped, is_rout
 use Rattle.event_life.proofs.Puts.{concerns-parts}
 use Rattle.hazard_board.specs.Board.{has_period}
 use Rattle.action_planner.specs.Placed.{Placed, zones_of, touches, speaks}
-use Rattle.action_planner.specs.Lines.{put_period, put_period_on, continuing_line, opening_action, opening_line, joined_row, put_line_on, put_line, line_on, puts_or_finishes, is_left, period_by_put, row_after_put, rows_by_intent, rows_by_puts, rows_left, is_overlaid, is_near_end, finishing_action, finish_lines, restate_lines, lines_in, lines_in_zones, lines_from, is_continued, added_lines, planned_lines}
+use Rattle.action_planner.specs.Lines.{period_of_put, period_of_put_on, continuing_line, opening_action, opening_line, joined_row, put_line_on, line_of_put, line_on, puts_or_finishes, is_left, period_by_put, row_after_put, rows_by_intent, rows_by_puts, rows_left, is_overlaid, is_near_end, finishing_action, finish_lines, restate_lines, lines_in, lines_in_zones, lines_from, is_continued, added_lines, planned_lines}
 use Rattle.action_planner.specs.Offences.{is_bad_period, bad_period_of}
 use Rattle.action_planner.proofs.LawfulLists.{EachPair, Has, all_append, all_each, all_filter, all_has, all_map, all_weaker, any_has, has_any, has_filter, has_left, has_map, has_right, has_split, none_of}
 use Rattle.action_planner.proofs.LawfulPlaced.{IsFit}
@@ -45,14 +45,14 @@ con_leaves rows t Q lives r h q =
     let same : row_after rows t (line_on Con t r) ≡ left = ap (λ (o : Option Row). row_of (line_on Con t r) (life_after_lawful_line (option_map life_of o) (line_on Con t r) t)) h in
     ap Q same ∙ lives r left refl refl (sym (continued_as_is t r)) refl q
 
-continuing_left : (rows : List Row) (t : ℕ) (e : Event) (part : PutPart) (row : Row) (same : Bool) → same_at t row.period (put_period_on part t row) ≡ same →
+continuing_left : (rows : List Row) (t : ℕ) (e : Event) (part : PutPart) (row : Row) (same : Bool) → same_at t row.period (period_of_put_on part t row) ≡ same →
     life_after_lawful_line (Some (life_of row)) (continuing_line t e part row) t ≡ record { period = continued_period (life_of row) (continuing_line t e part row) t; flood = flood_after row.flood part.flood; ended = false }
 unfolding life_after_lawful_line
 continuing_left rows t e part row true h = rw h refl
 continuing_left rows t e part row false h = rw h refl
 
 put_leaves_on : (rows : List Row) (t : ℕ) (Q : Row → Bool) → IsOfLives Q → (e : Event) (part : PutPart) (z : Place) (row : Row) → row_at rows e z ≡ Some row → is_bad_period part t ≡ false →
-    Q (record { event = e; zone = z; period = put_period_on part t row; flood = part.flood; ended = false }) ≡ true → Q (row_after rows t (continuing_line t e part row)) ≡ true
+    Q (record { event = e; zone = z; period = period_of_put_on part t row; flood = part.flood; ended = false }) ≡ true → Q (row_after rows t (continuing_line t e part row)) ≡ true
 put_leaves_on rows t Q lives e part z row h ok q =
     let p = row_at-parts rows e z row h in
     let line = continuing_line t e part row in
@@ -60,12 +60,12 @@ put_leaves_on rows t Q lives e part z row h ok q =
     let life : Life = record { period = continued_period (life_of row) line t; flood = flood_after row.flood part.flood; ended = false } in
     let same : row_after rows t line ≡ row_of line life =
     ap (λ (o : Option Row). row_of line (life_after_lawful_line (option_map life_of o) line t)) here
-    ∙ ap (row_of line) (continuing_left rows t e part row (same_at t row.period (put_period_on part t row)) refl) in
+    ∙ ap (row_of line) (continuing_left rows t e part row (same_at t row.period (period_of_put_on part t row)) refl) in
     ap Q same ∙ lives _ (row_of line life) (sym p.1) refl (sym (continued_by_put t e part row ok)) refl q
 
 opening_opens : (rows : List Row) (t : ℕ) (e : Event) (part : PutPart) (target : Target) → opens (opening_action rows t e part target) ≡ true
 opening_opens rows t e part (Fresh h) = refl
-opening_opens rows t e part (Join d) = joining_opens (has_period rows e (put_period part t) t)
+opening_opens rows t e part (Join d) = joining_opens (has_period rows e (period_of_put part t) t)
   where
     joining_opens : (b : Bool) → opens (cond b Exa Exb) ≡ true
     joining_opens true = refl
@@ -84,10 +84,10 @@ opening_left None line t h = refl
 opening_left (Some row) line t h = opened_anew line.action (life_of row) line t h
 
 opening_leaves : (rows : List Row) (t : ℕ) (Q : Row → Bool) (e : Event) (part : PutPart) (z : Place) → IsOfLives Q →
-    Q (record { event = e; zone = z; period = put_period part t; flood = part.flood; ended = false }) ≡ true → Q (row_after rows t (opening_line rows t e part z)) ≡ true
+    Q (record { event = e; zone = z; period = period_of_put part t; flood = part.flood; ended = false }) ≡ true → Q (row_after rows t (opening_line rows t e part z)) ≡ true
 opening_leaves rows t Q e part z lives q =
     let line = opening_line rows t e part z in
-    let same : row_after rows t line ≡ record { event = e; zone = z; period = put_period part t; flood = part.flood; ended = false } =
+    let same : row_after rows t line ≡ record { event = e; zone = z; period = period_of_put part t; flood = part.flood; ended = false } =
     ap (row_of line) (opening_left (row_at rows e z) line t (opening_opens rows t e part part.target)) in
     ap Q same ∙ q
 
@@ -103,7 +103,7 @@ put_leaves_by rows t Q lives e part z (Some row) h ok q = put_leaves_on rows t Q
 
 -- a put's line leaves the put's row
 put_leaves : (rows : List Row) (t : ℕ) (Q : Row → Bool) → IsOfLives Q → (e : Event) (part : PutPart) (z : Place) →
-    is_bad_period part t ≡ false → Q (row_after_put rows t e part z) ≡ true → Q (row_after rows t (put_line rows t e part z)) ≡ true
+    is_bad_period part t ≡ false → Q (row_after_put rows t e part z) ≡ true → Q (row_after rows t (line_of_put rows t e part z)) ≡ true
 put_leaves rows t Q lives e part z = put_leaves_by rows t Q lives e part z (joined_row rows e z part.target) refl
 
 module _ (rows : List Row) (t : ℕ) (all : List Placed) (Q : Row → Bool) (lives : IsOfLives Q) where
@@ -166,7 +166,7 @@ module _ (rows : List Row) (t : ℕ) (all : List Placed) (Q : Row → Bool) (liv
   puts_by p e (Put part) row period same h q =
       let m = has_map (row_after_put rows t p.event part) part.zones row h in
       let passes : Q (row_after_put rows t e part m.0) ≡ true = ap (λ (x : Event). Q (row_after_put rows t x part m.0)) (sym same) ∙ ap Q m.2 ∙ q in
-      let line = put_line rows t e part m.0 in
+      let line = line_of_put rows t e part m.0 in
       (line, has_zone e (Put part) part.zones m.0 line m.1 (inl refl), put-no_upgrade rows t e part m.0, put-no_routine rows t e part m.0, put_leaves rows t Q lives e part m.0 (not_bad (is_bad_period part t) _ period) passes)
   puts_by p e (Finish part) row period same h q = absurd h
   puts_by p e (Restate part) row period same h q = absurd h

@@ -13,9 +13,9 @@ use Rattle.hazard_types.specs.declared.line.Line.{Line}
 use Rattle.hazard_types.specs.declared.line.Row.{Row}
 use Rattle.hazard_types.proofs.Equality.{event_itself, event_one, hazard_itself, hazard_one}
 use Rattle.hazard_types.proofs.OrderLaws.{by_event_ties, by_hazard_total}
-use Rattle.event_life.specs.Openings.{add_event, counted_from, event_placed, is_numbered, numbers_of, opened_by}
+use Rattle.event_life.specs.Openings.{add_event, counted_from, event_placed, is_numbered, numbers_of, events_opened_by}
 use Rattle.event_life.specs.Products.{has_rows, is_new}
-use Rattle.event_life.proofs.OnceLemmas.{add_event-every, add_event-up, opened_by-every, opened_by-up}
+use Rattle.event_life.proofs.OnceLemmas.{add_event-every, add_event-up, events_opened_by-every, events_opened_by-up}
 use Rattle.event_numbers.specs.declared.Count.{Count}
 use Rattle.event_numbers.specs.Counts.{count_of}
 use Rattle.action_planner.specs.Conditions.{AreNumbered}
@@ -51,18 +51,18 @@ module _ (lines : List Line) where
   abbrev pub IsOpenedBy : Event → Type 0
   IsOpenedBy e = (l : Line) × Has lines l × (is_new l.action ≡ true) × (l.event ≡ e)
 
-  pub opened_from : (e : Event) → Has (opened_by lines) e → IsOpenedBy e
+  pub opened_from : (e : Event) → Has (events_opened_by lines) e → IsOpenedBy e
   opened_from e h =
-      all_has IsOpenedBy (opened_by lines) e
-      (opened_by-every IsOpenedBy lines (every (λ (l : Line). is_new l.action ≡ true → IsOpenedBy l.event) lines (λ l g n. (l, g, n, refl)))) h
+      all_has IsOpenedBy (events_opened_by lines) e
+      (events_opened_by-every IsOpenedBy lines (every (λ (l : Line). is_new l.action ≡ true → IsOpenedBy l.event) lines (λ l g n. (l, g, n, refl)))) h
 
-opened_step : (line : Line) (lines : List Line) (b : Bool) (l : Line) → is_new line.action ≡ b → Has (line ∷ lines) l → is_new l.action ≡ true → (Has lines l → Has (opened_by lines) l.event) → Has (cond b (add_event line.event (opened_by lines)) (opened_by lines)) l.event
-opened_step line lines true l is (inl same) n more = subst (λ (x : Line). Has (add_event line.event (opened_by lines)) x.event) same (added line.event (opened_by lines))
-opened_step line lines true l is (inr h) n more = stays line.event (opened_by lines) l.event (more h)
+opened_step : (line : Line) (lines : List Line) (b : Bool) (l : Line) → is_new line.action ≡ b → Has (line ∷ lines) l → is_new l.action ≡ true → (Has lines l → Has (events_opened_by lines) l.event) → Has (cond b (add_event line.event (events_opened_by lines)) (events_opened_by lines)) l.event
+opened_step line lines true l is (inl same) n more = subst (λ (x : Line). Has (add_event line.event (events_opened_by lines)) x.event) same (added line.event (events_opened_by lines))
+opened_step line lines true l is (inr h) n more = stays line.event (events_opened_by lines) l.event (more h)
 opened_step line lines false l is (inl same) n more = absurd (both_ways _ is (ap (λ (x : Line). is_new x.action) same ∙ n))
 opened_step line lines false l is (inr h) n more = more h
 
-pub opened_to : (lines : List Line) (l : Line) → Has lines l → is_new l.action ≡ true → Has (opened_by lines) l.event
+pub opened_to : (lines : List Line) (l : Line) → Has lines l → is_new l.action ≡ true → Has (events_opened_by lines) l.event
 opened_to [] l h n = absurd h
 opened_to (line ∷ lines) l h n = opened_step line lines (is_new line.action) l refl h n (λ g. opened_to lines l g n)
 
@@ -195,19 +195,19 @@ rising_is n (suc k) (x ∷ ns) up within all =
 
 pub numbers_alike : (h : Hazard) (year n k : ℕ) (lines : List Line) (events : List Event) → numbers_of h year events ≡ counted_from n k →
     ((e : Event) → Has events e → IsOpenedBy lines e) → ((l : Line) → Has lines l → is_new l.action ≡ true → Has events l.event) →
-    numbers_of h year (opened_by lines) ≡ numbers_of h year events
+    numbers_of h year (events_opened_by lines) ≡ numbers_of h year events
 numbers_alike h year n k lines events on each one =
-    rising_is n k (numbers_of h year (opened_by lines)) (numbers_rise h year (opened_by lines) (opened_by-up lines))
+    rising_is n k (numbers_of h year (events_opened_by lines)) (numbers_rise h year (events_opened_by lines) (events_opened_by-up lines))
     (λ m g.
-    let w = number_from h year (opened_by lines) m g in
+    let w = number_from h year (events_opened_by lines) m g in
     let l = opened_from lines w.0 w.1 in
     let there : Has events w.0 = subst (λ (x : Event). Has events x) l.3 (one l.0 l.1 l.2) in
     counted_has n k m (subst (λ (ns : List ℕ). Has ns m) on (subst (λ x. Has (numbers_of h year events) x) w.3 (number_to h year events w.0 there w.2))))
     (λ m low high.
     let w = number_from h year events m (subst (λ (ns : List ℕ). Has ns m) (sym on) (counted_to n k m low high)) in
     let l = each w.0 w.1 in
-    let there : Has (opened_by lines) w.0 = subst (λ (x : Event). Has (opened_by lines) x) l.3 (opened_to lines l.0 l.1 l.2) in
-    subst (λ x. Has (numbers_of h year (opened_by lines)) x) w.3 (number_to h year (opened_by lines) w.0 there w.2))
+    let there : Has (events_opened_by lines) w.0 = subst (λ (x : Event). Has (events_opened_by lines) x) l.3 (opened_to lines l.0 l.1 l.2) in
+    subst (λ x. Has (numbers_of h year (events_opened_by lines)) x) w.3 (number_to h year (events_opened_by lines) w.0 there w.2))
     ∙ sym on
 
 -- ---- the rows tell the counts

@@ -9,11 +9,11 @@ use Rattle.hazard_types.specs.declared.line.Line.{Line}
 use Rattle.hazard_types.specs.declared.line.Row.{Row}
 use Rattle.hazard_types.specs.declared.line.Segment.{Segment}
 use Rattle.hazard_types.proofs.OrderLaws.{by_event_total}
-use Rattle.event_life.specs.Openings.{opened_by}
+use Rattle.event_life.specs.Openings.{events_opened_by}
 use Rattle.event_life.specs.Products.{by_key, rows_after, concerns}
 use Rattle.event_life.specs.Reordered.{are_lawful, AreApart, TouchAlike}
 use Rattle.event_life.proofs.FreeOrder.{are_lawful-alike, rows_after-alike}
-use Rattle.event_life.proofs.OnceLemmas.{opened_by-up}
+use Rattle.event_life.proofs.OnceLemmas.{events_opened_by-up}
 use Rattle.event_life.proofs.Puts.{concerns-parts}
 use Rattle.segmenter.specs.Said.{lines_in_text, IsApart}
 use Rattle.segmenter.specs.Segments.{AreSegments, Has as IsIn}
@@ -40,17 +40,17 @@ module _ (lines : List Line) (segments : List Segment) (are : AreSegments lines 
   alike : TouchAlike (lines_in_text segments) lines
   alike line own = in_text lines segments are line
 
-  opens_in : (e : Event) → Has (opened_by (lines_in_text segments)) e → Has (opened_by lines) e
+  opens_in : (e : Event) → Has (events_opened_by (lines_in_text segments)) e → Has (events_opened_by lines) e
   opens_in e h =
       let w = opened_from (lines_in_text segments) e h in
       let there : Has lines w.0 = has_from lines w.0 ((in_text lines segments are w.0).0 (contains_from (lines_in_text segments) w.0 w.1)) in
-      subst (λ (x : Event). Has (opened_by lines) x) w.3 (opened_to lines w.0 there w.2)
+      subst (λ (x : Event). Has (events_opened_by lines) x) w.3 (opened_to lines w.0 there w.2)
 
-  opens_back : (e : Event) → Has (opened_by lines) e → Has (opened_by (lines_in_text segments)) e
+  opens_back : (e : Event) → Has (events_opened_by lines) e → Has (events_opened_by (lines_in_text segments)) e
   opens_back e h =
       let w = opened_from lines e h in
       let there : Has (lines_in_text segments) w.0 = has_from (lines_in_text segments) w.0 ((in_text lines segments are w.0).1 (contains_from lines w.0 w.1)) in
-      subst (λ (x : Event). Has (opened_by (lines_in_text segments)) x) w.3 (opened_to (lines_in_text segments) w.0 there w.2)
+      subst (λ (x : Event). Has (events_opened_by (lines_in_text segments)) x) w.3 (opened_to (lines_in_text segments) w.0 there w.2)
 
   is_in : (events : List Event) (e : Event) → Has events e → IsIn events e
   is_in events e h = contains_to events e (contains_from events e h)
@@ -58,13 +58,13 @@ module _ (lines : List Line) (segments : List Segment) (are : AreSegments lines 
   has_in : (events : List Event) (e : Event) → IsIn events e → Has events e
   has_in events e h = has_from events e (contains_of events e h)
 
-  opened_alike : opened_by (lines_in_text segments) ≡ opened_by lines
+  opened_alike : events_opened_by (lines_in_text segments) ≡ events_opened_by lines
   opened_alike =
-      same_list by_event by_event_total (opened_by (lines_in_text segments)) (opened_by lines) (opened_by-up (lines_in_text segments)) (opened_by-up lines)
-      (λ e h. is_in (opened_by lines) e (opens_in e (has_in (opened_by (lines_in_text segments)) e h)))
-      (λ e h. is_in (opened_by (lines_in_text segments)) e (opens_back e (has_in (opened_by lines) e h)))
+      same_list by_event by_event_total (events_opened_by (lines_in_text segments)) (events_opened_by lines) (events_opened_by-up (lines_in_text segments)) (events_opened_by-up lines)
+      (λ e h. is_in (events_opened_by lines) e (opens_in e (has_in (events_opened_by (lines_in_text segments)) e h)))
+      (λ e h. is_in (events_opened_by (lines_in_text segments)) e (opens_back e (has_in (events_opened_by lines) e h)))
 
-pub text_opened : (lines : List Line) (segments : List Segment) → AreSegments lines segments → opened_by (lines_in_text segments) ≡ opened_by lines
+pub text_opened : (lines : List Line) (segments : List Segment) → AreSegments lines segments → events_opened_by (lines_in_text segments) ≡ events_opened_by lines
 text_opened lines segments are = opened_alike lines segments are
 
 pub text_lawful : (rows : List Row) (t : ℕ) (lines : List Line) (segments : List Segment) → IsStrictlySortedBy by_key rows → AreSegments lines segments → AllPairs IsApart lines →

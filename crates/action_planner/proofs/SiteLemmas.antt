@@ -27,7 +27,7 @@ use Rattle.event_life.proofs.LawfulLemmas.{touches}
 use Rattle.event_numbers.specs.declared.Count.{Count}
 use Rattle.event_numbers.specs.Counts.{count_of}
 use Rattle.action_planner.specs.Conditions.{AreSited, needs_values, site_of}
-use Rattle.action_planner.specs.Offences.{differs, joins_by, moves_site, needed_flood, needed_flood_of, needs_event, other_site, site_moved_of}
+use Rattle.action_planner.specs.Offences.{differs, is_join_target, moves_site, needed_flood, needed_flood_of, needs_event, other_site, site_moved_of}
 use Rattle.action_planner.specs.Placed.{Placed, event_of_intent, event_of_target, is_opening, is_opening_target, opens_hazard, placed_from}
 use Rattle.action_planner.proofs.AfterLemmas.{after_from, all_after, later_from, pair_of, row_flood}
 use Rattle.action_planner.proofs.LawfulLists.{EachPair, Has, all_has, all_weaker, any_has, every, has_any, has_filter}
@@ -259,7 +259,7 @@ module _ (rows : List Row) (t : ℕ) (all : List Placed) (sited : AreSited rows)
       let alike = sites_alike (site_of first.0.flood) (site_of part.flood) (site_some first.0.flood row_values) (site_some part.flood (put_values p part is own.flood needs)) differ in
       rows_at_one rows sited row first.0 there first.1 (subst Needs (sym same) needs) (same ∙ sym first.2) ∙ alike
     where
-      joining : (target : Target) {x y : Bool} → is_opening_target target ≡ false → x ≡ y → (joins_by target && y) ≡ false → x ≡ false
+      joining : (target : Target) {x y : Bool} → is_opening_target target ≡ false → x ≡ y → (is_join_target target && y) ≡ false → x ≡ false
       joining (Fresh h) o same g = cc
       joining (Join d) o same g = same ∙ g
 

@@ -13,7 +13,7 @@ use Rattle.office_types.specs.declared.request.PutPart.{PutPart}
 use Rattle.event_life.specs.Products.{is_routine, row_at}
 use Rattle.event_life.proofs.Puts.{at_key}
 use Rattle.action_planner.specs.Placed.{Placed, zones_of}
-use Rattle.action_planner.specs.Lines.{added_lines, finish_lines, is_continued, joined_row, line_on, lines_from, lines_in, planned_lines, put_line, put_line_on, restate_lines}
+use Rattle.action_planner.specs.Lines.{added_lines, finish_lines, is_continued, joined_row, line_on, lines_from, lines_in, planned_lines, line_of_put, put_line_on, restate_lines}
 use Rattle.action_planner.proofs.LawfulLists.{Has, all_append, all_each, all_filter, all_map, all_weaker, has_all}
 use Rattle.action_planner.proofs.LawfulKeys.{IsOn, each_intent, each_zone, lines_on}
 use Rattle.action_planner.proofs.LawfulLines.{found_has}
@@ -66,7 +66,7 @@ module _ (rows : List Row) (t : ℕ) (all : List Placed) where
 
   in_zone : (p : Placed) → Has all p → (i : Intent) → p.intent ≡ i → (z : Place) → AllByRecursion (Comes rows all) (lines_in rows t all p.event i z)
   in_zone p h (Put part) is z =
-      let on : IsOn p.event z (put_line rows t p.event part z) = (lines_on rows t all p.event (Put part) z).0 in
+      let on : IsOn p.event z (line_of_put rows t p.event part z) = (lines_on rows t all p.event (Put part) z).0 in
       (inr (inl (record { by = p; among = h; part = part; put = is; event = sym on.0; flood = put_flood rows t p.event part z (joined_row rows p.event z part.target) })), tt)
   in_zone p h (Finish part) is z = all_weaker (FromRow rows) (Comes rows all) from_row (finish_lines rows t all (row_at rows p.event z)) (finish_from p.event z (row_at rows p.event z) refl)
   in_zone p h (Restate part) is z = all_weaker (FromRow rows) (Comes rows all) from_row (restate_lines t (row_at rows p.event z)) (restate_from p.event z (row_at rows p.event z) refl)

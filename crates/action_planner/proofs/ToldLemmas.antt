@@ -11,7 +11,7 @@ use Rattle.office_types.specs.declared.request.Intent.{Intent}
 use Rattle.office_types.specs.declared.request.Intent.TheVariants.{Put, Finish, Restate, Routine}
 use Rattle.office_types.specs.declared.request.Target.{Target}
 use Rattle.office_types.specs.declared.request.Target.TheVariants.{Fresh, Join}
-use Rattle.event_life.specs.Openings.{numbers_of, opened_by}
+use Rattle.event_life.specs.Openings.{numbers_of, events_opened_by}
 use Rattle.event_life.specs.Products.{is_new}
 use Rattle.event_numbers.specs.declared.Count.{Count}
 use Rattle.event_numbers.specs.Counts.{count_of}
@@ -25,7 +25,7 @@ use Rattle.action_planner.proofs.NumberLemmas.{counts_told, numbers_alike}
 use Rattle.action_planner.proofs.Standing.{opened_go_on}
 
 pub new_numbers_alike : (c : Category) (rows : List Row) (counts : List Count) (intents : List Intent) (t : ℕ) → CanPlan rows counts c intents t →
-    (h : Hazard) (year : ℕ) → numbers_of h year (opened_by (planned_lines c rows t (placed counts t intents))) ≡ numbers_of h year (opened (placed counts t intents))
+    (h : Hazard) (year : ℕ) → numbers_of h year (events_opened_by (planned_lines c rows t (placed counts t intents))) ≡ numbers_of h year (opened (placed counts t intents))
 new_numbers_alike c rows counts intents t can h year =
     let ps = placed counts t intents in
     let lines = planned_lines c rows t ps in

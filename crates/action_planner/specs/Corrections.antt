@@ -58,8 +58,8 @@ has_line lines e = list_any (λ (line : Line). same_event line.event e) lines
 abbrev pub no_line : EventTexts → Refusal
 no_line x = refusal.NoEvent x.event
 
-abbrev pub lineless : List Line → List EventTexts → Option Refusal
-lineless lines given = option_map no_line (find (λ (x : EventTexts). not (has_line lines x.event)) given)
+abbrev pub first_without_line : List Line → List EventTexts → Option Refusal
+first_without_line lines given = option_map no_line (find (λ (x : EventTexts). not (has_line lines x.event)) given)
 
 -- NotLast: another product is the last of its category
 abbrev pub not_last : ℕ → ℕ → Option Refusal
@@ -77,7 +77,7 @@ letters_spent letters = if nat_le 24 letters then Some refusal.LettersSpent else
 -- The rules of a correction, in the order in which they are asked.
 abbrev pub correction_rules : List Row → ℕ → Sent → ℕ → ℕ → List EventTexts → List (Option Refusal)
 correction_rules rows t sent last letters given =
-    lineless sent.lines given
+    first_without_line sent.lines given
     ∷ option_map refused_clash (least_clash t (rows_taken rows t (corrected_lines rows t sent.lines)))
     ∷ not_last sent.number last
     ∷ nothing_left (corrected_lines rows t sent.lines)

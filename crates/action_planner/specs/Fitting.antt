@@ -58,8 +58,8 @@ abbrev pub ascend : List Place → Bool
 ascend [] = true
 ascend (z ∷ zones) = is_before_first z zones && ascend zones
 
-abbrev pub are_zones : List Place → Bool
-are_zones zones = nat_le 1 (length zones) && nat_le (length zones) 600 && stand_once zones
+abbrev pub is_valid_zone_list : List Place → Bool
+is_valid_zone_list zones = nat_le 1 (length zones) && nat_le (length zones) 600 && stand_once zones
 
 abbrev pub may_hold : Category → Intent → Bool
-may_hold c i = fits c i && are_zones (zones_of i)
+may_hold c i = fits c i && is_valid_zone_list (zones_of i)

@@ -35,12 +35,12 @@ minute_of begin.Now t = t
 minute_of (begin.At m) t = m
 
 -- the period that a put gives to a zone without a row, or whose row a line has ended
-abbrev pub put_period : PutPart → ℕ → Period
-put_period part t = record { begin = minute_of part.begin t; end = part.end }
+abbrev pub period_of_put : PutPart → ℕ → Period
+period_of_put part t = record { begin = minute_of part.begin t; end = part.end }
 
 -- on a row that has begun the begin stays
-abbrev pub put_period_on : PutPart → ℕ → Row → Period
-put_period_on part t row = record { begin = (if nat_le row.period.begin t then row.period.begin else minute_of part.begin t); end = part.end }
+abbrev pub period_of_put_on : PutPart → ℕ → Row → Period
+period_of_put_on part t row = record { begin = (if nat_le row.period.begin t then row.period.begin else minute_of part.begin t); end = part.end }
 
 -- a begin that is at most the minute is printed as zeros
 abbrev pub printed_begin : ℕ → ℕ → Option ℕ
@@ -49,7 +49,7 @@ printed_begin m t = if nat_le m t then None else Some m
 -- NEW, or EXA where a live row of the joined event has the same period, else EXB
 abbrev pub opening_action : List Row → ℕ → Event → PutPart → Target → Action
 opening_action rows t e part (Fresh h) = New
-opening_action rows t e part (Join d) = if has_period rows e (put_period part t) t then Exa else Exb
+opening_action rows t e part (Join d) = if has_period rows e (period_of_put part t) t then Exa else Exb
 
 abbrev pub opening_line_by : Action → ℕ → Event → PutPart → Place → Line
 opening_line_by action t e part z = record { action = action; event = e; zone = z; begin = Some (minute_of part.begin t); end = part.end; flood = part.flood }
@@ -62,7 +62,7 @@ abbrev pub carried_line : ℕ → Event → Period → Option Flood → Row → 
 carried_line t e p flood row = record { action = (if same_at t row.period p then Con else Ext); event = e; zone = row.zone; begin = printed_begin p.begin t; end = p.end; flood = flood }
 
 abbrev pub continuing_line : ℕ → Event → PutPart → Row → Line
-continuing_line t e part row = carried_line t e (put_period_on part t row) part.flood row
+continuing_line t e part row = carried_line t e (period_of_put_on part t row) part.flood row
 
 -- the row, where no line has ended it
 abbrev pub unless_ended : Option Row → Option Row
@@ -78,8 +78,8 @@ abbrev pub put_line_on : List Row → ℕ → Event → PutPart → Place → Op
 put_line_on rows t e part z None = opening_line rows t e part z
 put_line_on rows t e part z (Some row) = continuing_line t e part row
 
-abbrev pub put_line : List Row → ℕ → Event → PutPart → Place → Line
-put_line rows t e part z = put_line_on rows t e part z (joined_row rows e z part.target)
+abbrev pub line_of_put : List Row → ℕ → Event → PutPart → Place → Line
+line_of_put rows t e part z = put_line_on rows t e part z (joined_row rows e z part.target)
 
 -- a line that says of a row what it is, by this action
 abbrev pub line_on : Action → ℕ → Row → Line
@@ -98,8 +98,8 @@ abbrev pub is_left : List Placed → Row → Bool
 is_left ps row = not (list_any (λ (p : Placed). puts_or_finishes p.intent && speaks row.event row.zone p) ps)
 
 abbrev pub period_by_put : ℕ → PutPart → Option Row → Period
-period_by_put t part None = put_period part t
-period_by_put t part (Some row) = put_period_on part t row
+period_by_put t part None = period_of_put part t
+period_by_put t part (Some row) = period_of_put_on part t row
 
 -- the row of a put in a zone, as far as its event, zone and period go
 abbrev pub row_after_put : List Row → ℕ → Event → PutPart → Place → Row
@@ -149,7 +149,7 @@ routine_line e z = record { action = Rou; event = e; zone = z; begin = None; end
 
 -- what an intent says of one of its zones; a finish or a restate without a row says nothing (and is refused)
 abbrev pub lines_in : List Row → ℕ → List Placed → Event → Intent → Place → List Line
-lines_in rows t ps e (Put part) z = put_line rows t e part z ∷ []
+lines_in rows t ps e (Put part) z = line_of_put rows t e part z ∷ []
 lines_in rows t ps e (Finish part) z = finish_lines rows t ps (row_at rows e z)
 lines_in rows t ps e (Restate part) z = restate_lines t (row_at rows e z)
 lines_in rows t ps e (Routine part) z = routine_line e z ∷ []

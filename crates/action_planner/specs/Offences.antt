@@ -80,11 +80,11 @@ abbrev pub not_live : List Row → ℕ → Placed → Option Refusal
 not_live rows t p = zone_named refused_not_live p.event (find (is_gone rows t p.event p.intent) (zones_of p.intent))
 
 -- LeftBefore: a joining put where the zone has a row that no line has ended and that is not live
-abbrev pub joins_by : Target → Bool
-joins_by target = not (is_opening_target target)
+abbrev pub is_join_target : Target → Bool
+is_join_target target = not (is_opening_target target)
 
 abbrev pub joins : Intent → Bool
-joins (Put part) = joins_by part.target
+joins (Put part) = is_join_target part.target
 joins _ = false
 
 abbrev pub was_left : List Row → ℕ → Event → Intent → Place → Bool
@@ -136,8 +136,8 @@ abbrev pub open_end_of : ℕ → Event → Intent → Option Refusal
 open_end_of place e (Put part) = if is_open_end part.end && not (may_stand_open (facts_of e.hazard)) then Some (refusal.NoOpenEnd place) else None
 open_end_of place e _ = None
 
-abbrev pub open_end : Placed → Option Refusal
-open_end p = open_end_of p.place p.event p.intent
+abbrev pub barred_open_end : Placed → Option Refusal
+barred_open_end p = open_end_of p.place p.event p.intent
 
 -- FloodNeeded: a put without flood values, or a routine intent, for a hazard that needs H-VTEC
 abbrev pub needed_flood_of : ℕ → Event → Intent → Option Refusal
@@ -166,7 +166,7 @@ other_site None named = false
 other_site (Some row) named = differs (site_of row.flood) (site_of named)
 
 abbrev pub moves_site : List Row → Event → PutPart → Bool
-moves_site rows e part = joins_by part.target && other_site (find (λ (row : Row). same_event row.event e) rows) part.flood
+moves_site rows e part = is_join_target part.target && other_site (find (λ (row : Row). same_event row.event e) rows) part.flood
 
 abbrev pub site_moved_of : List Row → Event → Intent → Option Refusal
 site_moved_of rows e (Put part) = if moves_site rows e part then Some (refusal.SiteMoved e) else None
@@ -207,7 +207,7 @@ rules c rows t ps =
     ∷ first_by (twice ps) ps
     ∷ first_by (bad_period t) ps
     ∷ first_by (begun_moved rows t) ps
-    ∷ first_by open_end ps
+    ∷ first_by barred_open_end ps
     ∷ first_by needed_flood ps
     ∷ first_by barred_flood ps
     ∷ first_by (site_moved rows) ps

@@ -9,7 +9,7 @@ use Rattle.hazard_board.specs.Taken.{rows_taken}
 use Rattle.action_planner.specs.declared.rules.Rule.{Rule}
 use Rattle.action_planner.specs.declared.rules.Rule.TheVariants.{NoEvent, NotLive, LeftBefore, Twice, BadPeriod, BegunMoved, NoOpenEnd, FloodNeeded, FloodBarred, SiteMoved, NumberHeld, NumbersSpent}
 use Rattle.action_planner.specs.Placed.{Placed}
-use Rattle.action_planner.specs.Offences.{first_by, first_given, no_intent, not_open, not_live, left_before, twice, bad_period, begun_moved, open_end, needed_flood, barred_flood, site_moved, refused_clash, number_held, numbers_spent, too_many}
+use Rattle.action_planner.specs.Offences.{first_by, first_given, no_intent, not_open, not_live, left_before, twice, bad_period, begun_moved, barred_open_end, needed_flood, barred_flood, site_moved, refused_clash, number_held, numbers_spent, too_many}
 
 -- what an intent is refused with under a rule
 abbrev pub offence : List Row → ℕ → List Placed → Rule → Placed → Option Refusal
@@ -19,7 +19,7 @@ offence rows t all LeftBefore p = left_before rows t p
 offence rows t all Twice p = twice all p
 offence rows t all BadPeriod p = bad_period t p
 offence rows t all BegunMoved p = begun_moved rows t p
-offence rows t all NoOpenEnd p = open_end p
+offence rows t all NoOpenEnd p = barred_open_end p
 offence rows t all FloodNeeded p = needed_flood p
 offence rows t all FloodBarred p = barred_flood p
 offence rows t all SiteMoved p = site_moved rows p

@@ -3,11 +3,9 @@ ghost use Rattle.std.specs.Prelude.{◌≡◌, ◌≤◌, Some, None, Err, IfOk,
 ghost use Rattle.std.specs.Option.{option_or};
 ghost use Rattle.hazard_types.specs.declared.or.Or.TheVariants.{No};
 ghost use Rattle.office_types.specs.declared.refusal.Refusal.{Refusal as Refused};
-ghost use Rattle.event_life.specs.Products.{by_key, row_at};
 ghost use Rattle.event_life.specs.Reordered.{are_lawful};
-ghost use Rattle.std.specs.List.Sorted.{IsStrictlySortedBy};
 ghost use Rattle.hazard_board.specs.Consistent.{IsConsistent};
-ghost use Rattle.action_planner.specs.Corrections.{correcting, with_some, corrected_lines, given_for, texts_or, corrected_texts, has_line, lineless, not_last, nothing_left, letters_spent, broken_on, broken_correction, IsCorrectionOf, IsCorrection, CanCorrect};
+ghost use Rattle.action_planner.specs.Corrections.{correcting, with_some, corrected_lines, given_for, texts_or, corrected_texts, has_line, first_without_line, not_last, nothing_left, letters_spent, broken_on, broken_correction, IsCorrectionOf, IsCorrection, CanCorrect};
 ghost use Rattle.action_planner.specs.Texts.{events_of};
 
 use crate::lines::{add_line, line_on};
@@ -20,7 +18,8 @@ use office_types::{EventTexts, Plan, Refusal, Sent, Texts};
 use segmenter::segments;
 use std::alloc::Global;
 
-/// Returns the `COR` line of a row, if it is live.
+/// Returns the `COR` line of a row, or `None` if there is no row or it is not live at `t`, the
+/// minute of issue of the correction.
 fn correcting(t: Minute, row: &Option<Row>) -> Option<Line>
     ensures { result ≡ correcting t row.now }
 {
@@ -30,6 +29,7 @@ fn correcting(t: Minute, row: &Option<Row>) -> Option<Line>
     }
 }
 
+/// Appends the line to `lines`, or nothing if it is `None`.
 fn add_some(lines: &mut List<Line>, line: &Option<Line>) -> Result<(), Oom>
     ensures { OnOk result (lines.new ≡ with_some lines.old line.now) }
 {
@@ -39,7 +39,9 @@ fn add_some(lines: &mut List<Line>, line: &Option<Line>) -> Result<(), Oom>
     }
 }
 
-/// Returns the `COR` lines of the live rows that `lines` are on.
+/// Returns the `COR` lines of a correction that is sent at minute `t`: one for each of `lines`,
+/// those of the corrected product, whose event has a row in the line's zone that is live at `t`.
+/// They are in the order of `lines`.
 fn corrected_lines(
     alloc: Global,
     board: &Board,
@@ -56,7 +58,8 @@ fn corrected_lines(
     Ok(corrected)
 }
 
-/// Returns the texts that are given for an event; the first if there are several.
+/// Returns the texts that `texts` has for an event, the first ones if it has several, or `None` if
+/// it has none.
 fn given_for<'a>(texts: &'a [EventTexts], event: &Event) -> Option<&'a Texts>
     ensures { MatchOption result (given_for texts.now event.now ≡ None)
         (λ found. given_for texts.now event.now ≡ Some found.now) }
@@ -69,8 +72,9 @@ fn given_for<'a>(texts: &'a [EventTexts], event: &Event) -> Option<&'a Texts>
     None
 }
 
-/// Returns the texts of an event in a correction: those in `given`, else those in `before`, else
-/// empty ones.
+/// Returns a copy of the texts that an event has in a correction. They are those in `given`, which
+/// come with the correction, else those in `before`, which are of the corrected product, else empty
+/// ones.
 fn texts_for(
     alloc: Global,
     given: &[EventTexts],
@@ -89,7 +93,9 @@ fn texts_for(
     }
 }
 
-/// Returns each event that has a line with its texts, in ascending order of events.
+/// Returns each event that has a line, in ascending order, with the texts that it has in a
+/// correction. They are those in `given`, which come with the correction, else those in `before`,
+/// which are of the corrected product, else empty ones.
 fn corrected_texts(
     alloc: Global,
     given: &[EventTexts],
@@ -107,15 +113,17 @@ fn corrected_texts(
     Ok(told)
 }
 
+/// Whether one of the lines is of the event.
 fn has_line(lines: &[Line], event: &Event) -> bool
     ensures { result ≡ has_line lines.now event.now }
 {
     lines.iter().any(|line| line.event == *event)
 }
 
-/// NoEvent: texts are given for an event that has no line in the product that is corrected.
-fn lineless(lines: &[Line], texts: &[EventTexts]) -> Option<Refusal>
-    ensures { result ≡ lineless lines.now texts.now }
+/// Returns the refusal NoEvent for the first of `texts` whose event has no line in `lines`, the
+/// lines of the product to be corrected, or `None` if each event has one.
+fn first_without_line(lines: &[Line], texts: &[EventTexts]) -> Option<Refusal>
+    ensures { result ≡ first_without_line lines.now texts.now }
 {
     for told in texts {
         if !has_line(lines, &told.event) {
@@ -125,7 +133,8 @@ fn lineless(lines: &[Line], texts: &[EventTexts]) -> Option<Refusal>
     None
 }
 
-/// NotLast: another product is the last of its category.
+/// Returns the refusal NotLast if `number`, of the product to be corrected, is not `last`, the
+/// number of the last product of the same category; else `None`.
 fn not_last(number: u32, last: u32) -> Option<Refusal>
     ensures { result ≡ not_last number last }
 {
@@ -136,7 +145,8 @@ fn not_last(number: u32, last: u32) -> Option<Refusal>
     }
 }
 
-/// NothingToCorrect: no line remains.
+/// Returns the refusal NothingToCorrect if `lines`, those of the correction, are empty, else
+/// `None`.
 fn nothing_left(lines: &[Line]) -> Option<Refusal>
     ensures { result ≡ nothing_left lines.now }
 {
@@ -146,7 +156,8 @@ fn nothing_left(lines: &[Line]) -> Option<Refusal>
     }
 }
 
-/// LettersSpent: the original has its 24 corrections, A to X.
+/// Returns the refusal LettersSpent if `letters`, the number of corrections that the original has,
+/// is 24 (A to X) or more; else `None`.
 fn letters_spent(letters: u8) -> Option<Refusal>
     ensures { result ≡ letters_spent letters }
 {
@@ -157,7 +168,10 @@ fn letters_spent(letters: u8) -> Option<Refusal>
     }
 }
 
-/// Returns the first rule that a correction with these lines breaks, apart from NoEvent.
+/// Returns the refusal under the first broken rule of a correction with these lines at minute `t`,
+/// or `None` if all are kept: Conflict, NotLast, NothingToCorrect, LettersSpent, TooManyLines.
+/// `number` is that of the product to be corrected, `last` that of the last product of its
+/// category, and `letters` the number of corrections that the original has.
 #[tactic(auto, unfolding(crate::specs::Corrections::broken_on))]
 fn broken_on(
     alloc: Global,
@@ -191,8 +205,9 @@ fn broken_on(
     Ok(too_many(lines.len()))
 }
 
-/// Returns the correction with these lines. It opens no event, and its letter comes after those of
-/// the original's earlier corrections.
+/// Returns the plan of the correction of `sent` with these lines, which opens no event. `texts` are
+/// those that come with the correction, and replace those of `sent`. `letters`, at most 24, is the
+/// number of corrections that the original has, and gives the plan's BBB letter: A for 0.
 fn correction_of(
     alloc: Global,
     sent: &Sent,
@@ -216,9 +231,9 @@ fn correction_of(
 }
 
 /// Returns the plan of a correction of `sent` at minute `t`: `COR` for each of its lines whose row
-/// is live at `t`, and no line for the others. Texts that are given for an event replace those of
-/// the product. `last` is the number of the last product of its category, and `letters` counts the
-/// corrections that the original has.
+/// is live at `t`, and no line for the others. `texts` come with the correction and replace those
+/// that `sent` has for the same events. `last` is the number of the last product of the category,
+/// and `letters` how many corrections the original has.
 ///
 /// # Errors
 ///
@@ -244,7 +259,7 @@ pub fn plan_correction(
         result ≡ Err (No r) →
         broken_correction board.now.rows t sent.now last letters texts.now ≡ Some r }
 {
-    if let Some(refusal) = lineless(sent.lines.as_slice(), texts.as_slice()) {
+    if let Some(refusal) = first_without_line(sent.lines.as_slice(), texts.as_slice()) {
         return Err(Or::No(refusal));
     }
     let lines = corrected_lines(alloc, board, t, sent.lines.as_slice())?;

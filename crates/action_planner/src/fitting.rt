@@ -3,7 +3,7 @@ ghost use Rattle.std.specs.Prelude.{◌≡◌, ◌≤◌, ◌↔◌, find, lengt
 ghost use Rattle.std.specs.List.{All};
 ghost use Rattle.hazard_types.specs.Hazards.{facts_of};
 ghost use Rattle.action_planner.specs.Conditions.{AreOfKind, AreZones, MayHold};
-ghost use Rattle.action_planner.specs.Fitting.{of_other_kind, are_of_kind, opens_with, fits_target, fits_following, fits, is_before_first, ascend, stand_once, are_zones, may_hold};
+ghost use Rattle.action_planner.specs.Fitting.{of_other_kind, are_of_kind, opens_with, fits_target, fits_following, fits, is_before_first, ascend, stand_once, is_valid_zone_list, may_hold};
 ghost use Rattle.action_planner.specs.Lines.{follows};
 
 use crate::lines::follows;
@@ -18,7 +18,8 @@ pub const MOST_INTENTS: usize = 64;
 /// The most zones of an intent.
 const MOST_ZONES: usize = 600;
 
-/// Whether the hazard is the desk's and the zone is not of its kind (county or forecast zone).
+/// Whether the zone is of another kind (county or forecast zone) than the hazard with the facts
+/// `known` needs. False for `None`, the facts of a hazard that the desk does not issue.
 fn of_other_kind(known: &Option<Facts>, zone: &Zone) -> bool
     ensures { result ≡ of_other_kind known.now zone.now }
 {
@@ -28,6 +29,8 @@ fn of_other_kind(known: &Option<Facts>, zone: &Zone) -> bool
     }
 }
 
+/// Returns the first zone of another kind than the hazard with the facts `known` needs, or `None`
+/// if there is none or the desk does not issue the hazard.
 fn first_other(known: &Option<Facts>, zones: &[Zone]) -> Option<Zone>
     ensures { result ≡ find (of_other_kind known.now) zones.now }
 {
@@ -39,8 +42,8 @@ fn first_other(known: &Option<Facts>, zones: &[Zone]) -> Option<Zone>
     None
 }
 
-/// Returns the first zone that is not of the hazard's kind (county or forecast zone). `None` for a
-/// hazard that the desk does not issue.
+/// Returns the first zone that is not of the kind (county or forecast zone) that the hazard needs,
+/// or `None` if there is none or the desk does not issue the hazard.
 ///
 /// Source: docs/HAZARDS.md.
 pub fn wrong_kind(hazard: &Hazard, zones: &[Zone]) -> Option<Zone>
@@ -50,13 +53,16 @@ pub fn wrong_kind(hazard: &Hazard, zones: &[Zone]) -> Option<Zone>
     first_other(&facts(*hazard), zones)
 }
 
+/// Whether all zones are of the kind (county or forecast zone) that the hazard needs. True for a
+/// hazard that the desk does not issue.
 fn are_of_kind(hazard: &Hazard, zones: &[Zone]) -> bool
     ensures { result ≡ are_of_kind (facts_of hazard.now) zones.now }
 {
     wrong_kind(hazard, zones).is_none()
 }
 
-/// Whether products of the category open new events of the hazard.
+/// Whether products of the category open new events of the hazard. False for a hazard that the desk
+/// does not issue.
 fn opens_with(category: Category, hazard: &Hazard) -> bool
     ensures { result ≡ opens_with category (facts_of hazard.now) }
 {
@@ -66,6 +72,9 @@ fn opens_with(category: Category, hazard: &Hazard) -> bool
     }
 }
 
+/// Whether a product of the category may do what the target of a put asks for, open a new event of
+/// a hazard or follow up an event that exists, and all zones are of the kind (county or forecast
+/// zone) that its hazard needs.
 fn fits_target(category: Category, target: &Target, zones: &[Zone]) -> bool
     ensures { result ≡ fits_target category target.now zones.now }
 {
@@ -77,12 +86,16 @@ fn fits_target(category: Category, target: &Target, zones: &[Zone]) -> bool
     }
 }
 
+/// Whether a product of the category may follow up events of the hazard, and all zones are of the
+/// kind (county or forecast zone) that the hazard needs.
 fn fits_following(category: Category, hazard: &Hazard, zones: &[Zone]) -> bool
     ensures { result ≡ fits_following category hazard.now zones.now }
 {
     follows(category, hazard) && are_of_kind(hazard, zones)
 }
 
+/// Whether a draft of the category may hold the intent, as far as its hazard and the kind of its
+/// zones decide. The number of the zones, and whether one is given twice, is not tested.
 fn fits(category: Category, intent: &Intent) -> bool
     ensures { result ≡ fits category intent.now }
 {
@@ -95,7 +108,7 @@ fn fits(category: Category, intent: &Intent) -> bool
     }
 }
 
-/// Whether the zone comes before the first of `later`; true if there is none.
+/// Whether the zone sorts strictly before the first of `later`; true if `later` is empty.
 fn is_before_first(zone: &Zone, later: &[Zone]) -> bool
     ensures { result ≡ is_before_first zone.now later.now }
 {
@@ -117,7 +130,8 @@ fn ascend(zones: &[Zone]) -> bool
     true
 }
 
-/// Whether the zones are distinct; sorts a copy in `sorted`.
+/// Whether the zones are distinct, in whatever order. `sorted` must have the same length, and is
+/// overwritten with a sorted copy of them.
 #[tactic(auto, using(crate::proofs::OnceLemmas::once_sorted))]
 fn are_distinct_in(sorted: &mut [Zone], zones: &[Zone]) -> bool
     requires { length sorted.old ≡ length zones.now }
@@ -128,7 +142,7 @@ fn are_distinct_in(sorted: &mut [Zone], zones: &[Zone]) -> bool
     ascend(sorted)
 }
 
-/// Whether the zones are distinct, whatever their order. Sorts a copy on the stack.
+/// Whether the zones, 1 to 600 in whatever order, are distinct. Sorts a copy of them on the stack.
 fn are_distinct_unordered(zones: &[Zone]) -> bool
     requires some { 1 ≤ length zones.now }
     requires few { length zones.now ≤ 600 }
@@ -138,7 +152,8 @@ fn are_distinct_unordered(zones: &[Zone]) -> bool
     are_distinct_in(&mut sorted[..zones.len()], zones)
 }
 
-/// Whether the zones are distinct. Ascending zones, the usual case, are not copied.
+/// Whether the zones, 1 to 600 in whatever order, are distinct. They are copied only if they are
+/// not in ascending order.
 fn stand_once(zones: &[Zone]) -> bool
     requires some { 1 ≤ length zones.now }
     requires few { length zones.now ≤ 600 }
@@ -152,7 +167,7 @@ fn stand_once(zones: &[Zone]) -> bool
 
 /// Whether there are 1 to 600 zones, all distinct.
 fn is_zone_list(zones: &[Zone]) -> bool
-    ensures { result ≡ are_zones zones.now }
+    ensures { result ≡ is_valid_zone_list zones.now }
 {
     1 <= zones.len() && zones.len() <= MOST_ZONES && stand_once(zones)
 }
@@ -160,12 +175,14 @@ fn is_zone_list(zones: &[Zone]) -> bool
 /// Whether there are 1 to 600 zones, all distinct.
 ///
 /// Source: docs/REQUESTS.md, "Drafts and the parts of a request" (E13 BadZoneList).
-pub fn are_zones(zones: &[Zone]) -> bool
+pub fn is_valid_zone_list(zones: &[Zone]) -> bool
     ensures { IsTrue result ↔ AreZones zones.now }
 {
     is_zone_list(zones)
 }
 
+/// Whether a draft of the category may hold the intent: the desk issues its hazard in this
+/// category, and it has 1 to 600 distinct zones, all of the kind that the hazard needs.
 fn holds(category: Category, intent: &Intent) -> bool
     ensures { result ≡ may_hold category intent.now }
 {
@@ -192,6 +209,7 @@ pub fn may_be_planned(draft: &Draft) -> bool
     draft.intents.len() <= MOST_INTENTS && may_hold_all(draft.category, draft.intents.as_slice())
 }
 
+/// Whether a draft of the category may hold each of the intents, as `may_hold` tests.
 fn may_hold_all(category: Category, intents: &[Intent]) -> bool
     ensures { IsTrue result ↔ All (MayHold category) intents.now }
 {

@@ -4,18 +4,19 @@ ghost use Rattle.event_life.specs.Products.{is_open};
 ghost use Rattle.hazard_board.specs.Consistent.{IsConsistent};
 ghost use Rattle.hazard_types.specs.Hazards.{facts_of};
 ghost use Rattle.action_planner.specs.Conditions.{needs_values, site_of};
-ghost use Rattle.action_planner.specs.Offences.{needs_event, not_open, is_bad_period, bad_period, may_stand_open, open_end, needed_flood, barred_flood, differs, other_site, moves_site, site_moved, holds, held_by, number_held, numbers_spent};
+ghost use Rattle.action_planner.specs.Offences.{needs_event, not_open, is_bad_period, bad_period, may_stand_open, barred_open_end, needed_flood, barred_flood, differs, other_site, moves_site, site_moved, holds, held_by, number_held, numbers_spent};
 
 use crate::placed::{Placed, is_opening};
 use crate::puts::minute_of;
-use crate::zone_rules::joins_by;
+use crate::zone_rules::is_join_target;
 use event_life::ends_after;
 use hazard_board::Board;
 use hazard_types::desk_hazards::facts;
 use hazard_types::{End, Event, Flood, Hazard, Minute, Row};
 use office_types::{Intent, PutPart, Refusal};
 
-/// Whether the event is open: whether it is the board's open event of its hazard and number.
+/// Whether the event is open at minute `t`: it has a row on the board that no line has ended and
+/// whose end is not more than half an hour before `t`.
 fn is_open(board: &Board, t: Minute, event: &Event) -> bool
     requires { IsConsistent board.now.rows t }
     ensures { result ≡ is_open board.now.rows t event.now }
@@ -26,7 +27,7 @@ fn is_open(board: &Board, t: Minute, event: &Event) -> bool
     }
 }
 
-/// Whether the intent needs its event to be open. A put of a new event and a routine intent do not.
+/// Whether the intent needs its event to be open: a put that joins one, a finish or a restate.
 fn needs_event(intent: &Intent) -> bool
     ensures { result ≡ needs_event intent.now }
 {
@@ -37,7 +38,8 @@ fn needs_event(intent: &Intent) -> bool
     }
 }
 
-/// Whether a put begins before `t`, or does not end after both its begin and `t`.
+/// Whether a put begins before `t`, the minute of issue, or does not end after both its begin and
+/// `t`.
 fn is_bad_period(part: &PutPart, t: Minute) -> bool
     ensures { result ≡ is_bad_period part.now t }
 {
@@ -45,7 +47,8 @@ fn is_bad_period(part: &PutPart, t: Minute) -> bool
     begin.get() < t.get() || !(ends_after(&part.end, begin) && ends_after(&part.end, t))
 }
 
-/// Whether the hazard may be in effect until further notice.
+/// Whether the hazard may be in effect until further notice. False for a hazard that the desk does
+/// not issue.
 fn may_stand_open(hazard: Hazard) -> bool
     ensures { result ≡ may_stand_open (facts_of hazard) }
 {
@@ -55,7 +58,8 @@ fn may_stand_open(hazard: Hazard) -> bool
     }
 }
 
-/// Whether the hazard needs flood values (H-VTEC).
+/// Whether events of the hazard need flood values (H-VTEC). False for a hazard that the desk does
+/// not issue.
 fn needs_values(hazard: Hazard) -> bool
     ensures { result ≡ needs_values (facts_of hazard) }
 {
@@ -65,7 +69,8 @@ fn needs_values(hazard: Hazard) -> bool
     }
 }
 
-/// NoEvent: the event that is joined, finished or restated is not open.
+/// Returns the refusal NoEvent if the intent joins, finishes or restates an event that is not open
+/// at `t`, the minute of issue; else `None`.
 pub fn not_open(board: &Board, t: Minute, p: &Placed) -> Option<Refusal>
     requires { IsConsistent board.now.rows t }
     ensures { result ≡ not_open board.now.rows t p.now }
@@ -77,7 +82,8 @@ pub fn not_open(board: &Board, t: Minute, p: &Placed) -> Option<Refusal>
     }
 }
 
-/// BadPeriod: a put begins before `t`, or does not end after both its begin and `t`.
+/// Returns the refusal BadPeriod if the intent is a put that begins before `t`, the minute of
+/// issue, or does not end after both its begin and `t`; else `None`.
 pub fn bad_period(t: Minute, p: &Placed) -> Option<Refusal>
     requires { p.now.place < 64 }
     ensures { result ≡ bad_period t p.now }
@@ -90,10 +96,11 @@ pub fn bad_period(t: Minute, p: &Placed) -> Option<Refusal>
     }
 }
 
-/// NoOpenEnd: a put until further notice, of a hazard that must have an end.
-pub fn open_end(p: &Placed) -> Option<Refusal>
+/// Returns the refusal NoOpenEnd if the intent is a put until further notice of a hazard that must
+/// have an end, else `None`.
+pub fn barred_open_end(p: &Placed) -> Option<Refusal>
     requires { p.now.place < 64 }
-    ensures { result ≡ open_end p.now }
+    ensures { result ≡ barred_open_end p.now }
 {
     match p.intent {
         Intent::Put(part) if part.end == End::Ufn && !may_stand_open(p.event.hazard) => {
@@ -105,7 +112,8 @@ pub fn open_end(p: &Placed) -> Option<Refusal>
     }
 }
 
-/// FloodNeeded: a put without flood values, or a routine intent, of a hazard that needs them.
+/// Returns the refusal FloodNeeded if the hazard needs flood values (H-VTEC) and the intent is
+/// routine or a put without them, else `None`.
 pub fn needed_flood(p: &Placed) -> Option<Refusal>
     requires { p.now.place < 64 }
     ensures { result ≡ needed_flood p.now }
@@ -124,7 +132,8 @@ pub fn needed_flood(p: &Placed) -> Option<Refusal>
     }
 }
 
-/// FloodBarred: a put with flood values, of a hazard that takes none.
+/// Returns the refusal FloodBarred if the intent is a put with flood values (H-VTEC) of a hazard
+/// that takes none, else `None`.
 pub fn barred_flood(p: &Placed) -> Option<Refusal>
     requires { p.now.place < 64 }
     ensures { result ≡ barred_flood p.now }
@@ -139,7 +148,7 @@ pub fn barred_flood(p: &Placed) -> Option<Refusal>
     }
 }
 
-/// Returns the location that flood values name.
+/// Returns the location, five characters as `ABCM2`, of flood values, or `None` if there are none.
 fn site_of(flood: &Option<Flood>) -> Option<[u8; 5]>
     ensures { result ≡ site_of flood.now }
 {
@@ -149,7 +158,7 @@ fn site_of(flood: &Option<Flood>) -> Option<[u8; 5]>
     }
 }
 
-/// Whether both are given and differ.
+/// Whether both locations are given and they differ.
 fn differs(first: &Option<[u8; 5]>, second: &Option<[u8; 5]>) -> bool
     ensures { result ≡ differs first.now second.now }
 {
@@ -159,7 +168,7 @@ fn differs(first: &Option<[u8; 5]>, second: &Option<[u8; 5]>) -> bool
     }
 }
 
-/// Whether the row and the values name two different locations.
+/// Whether the row and the flood values `named` both have a location and the two differ.
 fn other_site(row: &Option<Row>, named: &Option<Flood>) -> bool
     ensures { result ≡ other_site row.now named.now }
 {
@@ -169,14 +178,16 @@ fn other_site(row: &Option<Row>, named: &Option<Flood>) -> bool
     }
 }
 
-/// Whether a put joins the event and names another location than the event's first row.
+/// Whether a put joins the event and its flood values name another location than those of the
+/// event's first row by zone. False if one of the two names none.
 fn moves_site(board: &Board, event: &Event, part: &PutPart) -> bool
     ensures { result ≡ moves_site board.now.rows event.now part.now }
 {
-    joins_by(&part.target) && other_site(&board.first(*event), &part.flood)
+    is_join_target(&part.target) && other_site(&board.first(*event), &part.flood)
 }
 
-/// SiteMoved: a joining put names another location than the event has.
+/// Returns the refusal SiteMoved if the intent is a put that joins an event and its flood values
+/// name another location than those of the event's first row by zone; else `None`.
 pub fn site_moved(board: &Board, p: &Placed) -> Option<Refusal>
     ensures { result ≡ site_moved board.now.rows p.now }
 {
@@ -188,8 +199,8 @@ pub fn site_moved(board: &Board, p: &Placed) -> Option<Refusal>
     }
 }
 
-/// Returns the refusal NumberHeld if an open event of an earlier year has the event's hazard and
-/// number.
+/// Returns the refusal NumberHeld, which names the holder, if an event of an earlier year with the
+/// hazard and number of `event` is open at `t`, the minute of issue; else `None`.
 fn number_held_for(board: &Board, t: Minute, event: &Event) -> Option<Refusal>
     requires { IsConsistent board.now.rows t }
     ensures { result ≡ option_map held_by (find (holds t event.now) board.now.rows) }
@@ -202,7 +213,8 @@ fn number_held_for(board: &Board, t: Minute, event: &Event) -> Option<Refusal>
     }
 }
 
-/// NumberHeld: an open event of an earlier year has the number of the event that is to be opened.
+/// Returns the refusal NumberHeld if the intent opens an event and an event of an earlier year with
+/// the same hazard and number is open at `t`, the minute of issue; else `None`.
 ///
 /// Source: NWS Instruction 10-1703, P-VTEC event tracking numbers; docs/DECISIONS.md, "Plans".
 pub fn number_held(board: &Board, t: Minute, p: &Placed) -> Option<Refusal>
@@ -216,7 +228,8 @@ pub fn number_held(board: &Board, t: Minute, p: &Placed) -> Option<Refusal>
     }
 }
 
-/// NumbersSpent: the number of the event that is to be opened is above 9,999.
+/// Returns the refusal NumbersSpent if the number of the event that the intent opens is above
+/// 9,999, else `None`.
 pub fn numbers_spent(p: &Placed) -> Option<Refusal>
     ensures { result ≡ numbers_spent p.now }
 {

@@ -25,7 +25,8 @@ ghost use Rattle.action_planner.specs.Corrections.{broken_correction, corrected_
 ghost use Rattle.action_planner.specs.Cases.{IsPlanned, hazard_opened};
 ghost use Rattle.action_planner.specs.Standing.{Stands};
 
-/// Where a draft breaks no rule, none of its lines has a breach.
+/// If a draft breaks no rule, each line of its product is lawful on the rows before the draft, that
+/// is, none breaks a rule of the lives of events.
 pub fn planned_lines_are_lawful()
     ensures { (c : Category) (rows : List Row) (counts : List Count) (intents : List Intent)
         (t : ℕ) →
@@ -34,7 +35,7 @@ pub fn planned_lines_are_lawful()
         IsTrue (are_lawful rows t (planned_lines c rows t (placed counts t intents))) }
 {}
 
-/// Where a draft breaks no rule, no two of its lines are of one event in one zone.
+/// If a draft breaks no rule, no two lines of its product have the same event and the same zone.
 pub fn planned_lines_are_distinct()
     ensures { (c : Category) (rows : List Row) (counts : List Count) (intents : List Intent)
         (t : ℕ) →
@@ -44,8 +45,9 @@ pub fn planned_lines_are_distinct()
         (planned_lines c rows t (placed counts t intents)) }
 {}
 
-/// Where a draft breaks no rule, its lines NEW, EXA and EXB are exactly the non-routine ones whose
-/// event has no unended row in the zone. The event of a ROU line has no row in the zone at all.
+/// If a draft breaks no rule, a line of its product that is not ROU has the action NEW, EXA or EXB
+/// if and only if its event has no row in its zone, or one that a line has ended. The event of a
+/// ROU line has no row in its zone at all.
 pub fn planned_lines_open_where_no_row_stands()
     ensures opened { (c : Category) (rows : List Row) (counts : List Count)
         (intents : List Intent) (t : ℕ) →
@@ -63,8 +65,9 @@ pub fn planned_lines_open_where_no_row_stands()
         (planned_lines c rows t (placed counts t intents)) }
 {}
 
-/// The events that a draft opens are of the year of issue. Those of each hazard are numbered from
-/// one more than its count, in the order of places.
+/// Each event that a draft opens is of the year of the minute of issue. Those of one hazard, in the
+/// order of the intents, have successive numbers, of which the first is one more than how many
+/// numbers of the hazard were drawn in that year.
 pub fn opened_events_are_numbered_on()
     ensures year { (counts : List Count) (intents : List Intent) (t : ℕ) →
         All (λ (e : Event). e.year ≡ year_of t) (opened (placed counts t intents)) }
@@ -73,8 +76,8 @@ pub fn opened_events_are_numbered_on()
         ≡ counted_from (count_of counts h (year_of t) + 1) (count_by (opens_hazard h) intents) }
 {}
 
-/// Each NEW line of a draft is of an event that the draft opens, and each of these events has a NEW
-/// line.
+/// The event of each NEW line of a draft's product is one that the draft opens, and each event that
+/// the draft opens has a NEW line.
 pub fn new_lines_are_of_opened_events()
     ensures lines { (c : Category) (rows : List Row) (counts : List Count) (intents : List Intent)
         (t : ℕ) →
@@ -89,8 +92,9 @@ pub fn new_lines_are_of_opened_events()
         (opened (placed counts t intents)) }
 {}
 
-/// Where a draft breaks no rule, its lines are exactly those of the definition by cases: by the
-/// intent on an event in a zone, or none, and by the event's row there.
+/// If a draft breaks no rule, the lines of its product are exactly those that the definition
+/// `IsPlanned` allows. It decides the line on an event in a zone from the intent that is on them,
+/// if there is one, and from the event's row in the zone.
 pub fn planned_lines_are_those_planned()
     ensures { (c : Category) (rows : List Row) (counts : List Count) (intents : List Intent)
         (t : ℕ) →
@@ -102,27 +106,29 @@ pub fn planned_lines_are_those_planned()
 {}
 
 /// The hazards of the events that a draft opens are those of its puts of new events, in the order
-/// of places.
+/// of the intents.
 pub fn opened_events_stand_in_order()
     ensures { (counts : List Count) (intents : List Intent) (t : ℕ) →
         map (λ (e : Event). e.hazard) (opened (placed counts t intents))
         ≡ filter_map hazard_opened intents }
 {}
 
-/// With no rows and no numbers, all that is required between the products of an office (`Stands`)
-/// holds.
+/// An office with no rows and no drawn numbers meets, at each minute, `Stands`: the condition on
+/// rows and drawn numbers that has to hold between its products.
 pub fn nothing_stands_at_first()
     ensures { (t : ℕ) → Stands [] [] t }
 {}
 
-/// What holds between products at a minute holds at later ones.
+/// If rows and drawn numbers meet `Stands`, the condition that has to hold between the products of
+/// an office, at a minute, they meet it at each later minute.
 pub fn standing_conditions_persist()
     ensures { (rows : List Row) (counts : List Count) (t u : ℕ) →
         t ≤ u → Stands rows counts t → Stands rows counts u }
 {}
 
-/// Where a draft breaks no rule, each event that it opens has the number after those drawn before
-/// it, of at most 9,999.
+/// If a draft breaks no rule, each event that it opens has a number of at most 9,999. It is one
+/// more than how many numbers of the event's hazard and year were drawn before the draft and are
+/// drawn by the events that the draft opens earlier.
 pub fn opened_events_are_drawn_in_order()
     ensures { (c : Category) (rows : List Row) (counts : List Count) (intents : List Intent)
         (t : ℕ) (earlier later : List Event) (e : Event) →
@@ -133,8 +139,9 @@ pub fn opened_events_are_drawn_in_order()
         × (e.etn ≤ 9999) }
 {}
 
-/// The product of a draft that breaks no rule keeps what holds between products (`Stands`), once
-/// the numbers of its new events are drawn.
+/// If rows and drawn numbers meet `Stands`, the condition that has to hold between the products of
+/// an office, and a draft breaks no rule, the rows after its product meet it too, with the numbers
+/// of its new events drawn.
 pub fn plans_keep_what_stands()
     ensures { (c : Category) (rows : List Row) (counts after : List Count) (intents : List Intent)
         (t : ℕ) →
@@ -144,7 +151,8 @@ pub fn plans_keep_what_stands()
         Stands (rows_after rows t (planned_lines c rows t (placed counts t intents))) after t }
 {}
 
-/// If no two lines of a product are of one event in one zone, no two of its correction are.
+/// If no two lines of a product have the same event and the same zone, no two lines of its
+/// correction have.
 pub fn corrected_lines_are_distinct()
     ensures { (rows : List Row) (t : ℕ) (lines : List Line) →
         AllPairs (λ (l m : Line). ¬ ((l.event ≡ m.event) × (l.zone ≡ m.zone))) lines →
@@ -152,8 +160,9 @@ pub fn corrected_lines_are_distinct()
         (corrected_lines rows t lines) }
 {}
 
-/// The correction of a product, if it breaks no rule, keeps what holds between products (`Stands`).
-/// It draws no number.
+/// If rows and drawn numbers meet `Stands`, the condition that has to hold between the products of
+/// an office, and a correction breaks no rule, the rows after it meet it too, with the same drawn
+/// numbers. No two lines of the corrected product may have the same event and zone.
 pub fn corrections_keep_what_stands()
     ensures { (rows : List Row) (counts : List Count) (sent : Sent) (last letters : ℕ)
         (given : List EventTexts) (t : ℕ) →

@@ -22,7 +22,7 @@ mod told_laws;
 mod zone_rules;
 
 pub use correcting::plan_correction;
-pub use fitting::{MOST_INTENTS, are_zones, may_be_planned, may_hold, wrong_kind};
+pub use fitting::{MOST_INTENTS, is_valid_zone_list, may_be_planned, may_hold, wrong_kind};
 pub use laws::{
     corrected_lines_are_distinct, corrections_keep_what_stands, new_lines_are_of_opened_events,
     nothing_stands_at_first, opened_events_are_drawn_in_order, opened_events_are_numbered_on,

@@ -18,7 +18,8 @@ ghost use Rattle.action_planner.specs.Placed.{placed, zones_of};
 ghost use Rattle.action_planner.specs.Standing.{AreKnown, HaveFourDigits, IsKnown};
 ghost use Rattle.action_planner.specs.Told.{flood_of, passes};
 
-/// The desk issues the hazard of each line, if it issues those of the rows.
+/// If the desk issues the hazard of each row, it issues the hazard of each line of a draft's
+/// product and of each line of a correction.
 pub fn lines_are_of_the_desks_hazards()
     ensures planned { (c : Category) (rows : List Row) (counts : List Count)
         (intents : List Intent) (t : ℕ) →
@@ -30,8 +31,9 @@ pub fn lines_are_of_the_desks_hazards()
         All (λ (line : Line). IsKnown line.event.hazard) (corrected_lines rows t lines) }
 {}
 
-/// The number of each line is at most 9,999, if no count of a hazard and year is above it. For the
-/// lines of a draft this holds where it breaks no rule.
+/// If at most 9,999 numbers of each hazard and year were drawn, the event tracking number of each
+/// line of a correction is at most 9,999, and so is that of each line of a draft's product if the
+/// draft breaks no rule.
 pub fn lines_have_four_digits()
     ensures planned { (c : Category) (rows : List Row) (counts : List Count)
         (intents : List Intent) (t : ℕ) →
@@ -44,7 +46,8 @@ pub fn lines_have_four_digits()
         All (λ (line : Line). line.event.etn ≤ 9999) (corrected_lines rows t lines) }
 {}
 
-/// Each EXP line of a draft ends at a minute. A correction has COR lines only.
+/// Each EXP line of a draft's product ends at a minute, not until further notice. A correction has
+/// COR lines only.
 pub fn expiring_lines_end_at_a_minute()
     ensures planned { (c : Category) (rows : List Row) (counts : List Count)
         (intents : List Intent) (t : ℕ) →
@@ -62,8 +65,9 @@ pub fn lines_stand_in_the_drafts_zones()
         (planned_lines c rows t (placed counts t intents)) }
 {}
 
-/// Each line of a hazard that needs H-VTEC has it. For the lines of a draft this holds where it
-/// breaks no rule.
+/// Each line of a draft's product has H-VTEC values if its hazard needs them and the draft breaks
+/// no rule. So has each line of a correction whose hazard needs them, if all rows of such hazards
+/// have them.
 pub fn flood_lines_have_values()
     ensures planned { (c : Category) (rows : List Row) (counts : List Count)
         (intents : List Intent) (t : ℕ) →
@@ -78,8 +82,9 @@ pub fn flood_lines_have_values()
         (corrected_lines rows t lines) }
 {}
 
-/// A test that all H-VTEC values of rows and puts pass, such as one of the form of a location, is
-/// passed by those of the lines.
+/// If a test, such as one of the form of a location, accepts the H-VTEC values of all rows and of
+/// all puts of a draft, it accepts those of all lines of the draft's product. If it accepts those
+/// of all rows, it accepts those of all lines of a correction.
 pub fn flood_values_are_those_given()
     ensures planned { (test : Flood → Bool) (c : Category) (rows : List Row) (counts : List Count)
         (intents : List Intent) (t : ℕ) →

@@ -1,7 +1,6 @@
 //! The lines of a draft: those of each intent in each of its zones, and `CON` for the other live
 //! rows of the category in these zones.
 ghost use Rattle.std.specs.Prelude.{◌≡◌, ◌<◌, ◌∷◌, [], ◌++◌, true, length, map, filter, IfOk, OnOk};
-ghost use Rattle.std.specs.List.{list_any};
 ghost use Rattle.std.specs.List.Sorted.{IsStrictlySortedBy};
 ghost use Rattle.hazard_types.specs.Hazards.{facts_of};
 ghost use Rattle.hazard_types.specs.declared.codes.Action.TheVariants.{Con};
@@ -12,7 +11,7 @@ ghost use Rattle.action_planner.specs.Lines.{line_on, is_near_end, finishing_act
 ghost use Rattle.action_planner.specs.Sending.{have_finish, is_finish, opening_of};
 
 use crate::placed::{Placed, zones_of};
-use crate::puts::{opening_action, printed_begin, put_line};
+use crate::puts::{line_of_put, opening_action, printed_begin};
 use crate::sending::Sending;
 use crate::spoken::Spoken;
 use event_life::{ends_after, is_live};
@@ -23,7 +22,8 @@ use hazard_types::{
 use office_types::Intent;
 use std::alloc::Global;
 
-/// Returns the line with this action that says the period and flood values of a row.
+/// Returns the line with this action that has the event, zone, period and flood values of a row.
+/// Its begin is `None`, printed as zeros, if that of the row is not after `t`, the minute of issue.
 pub fn line_on(action: Action, t: Minute, row: &Row) -> Line
     ensures { result ≡ line_on action t row.now }
 {
@@ -37,7 +37,8 @@ pub fn line_on(action: Action, t: Minute, row: &Row) -> Line
     }
 }
 
-/// Whether the end is a minute at most 30 minutes before or after `t`.
+/// Whether the end is a minute that is at most 30 minutes before or after `t`. False for an end
+/// until further notice.
 pub fn is_near_end(end: &End, t: Minute) -> bool
     ensures { result ≡ is_near_end end.now t }
 {
@@ -47,8 +48,10 @@ pub fn is_near_end(end: &End, t: Minute) -> bool
     }
 }
 
-/// Returns the action that ends a row: `UPG` before its end if a live row of a higher rank of its
-/// family overlaps it after the draft, else `EXP` within half an hour of its end, else `CAN`.
+/// Returns the action that ends a row in the draft `sending`, one of whose intents must be a
+/// finish. It is `UPG` if the row's end is after the minute of issue and a live row of its zone and
+/// family, of a higher rank, overlaps it after the draft; else `EXP` if the end is at most 30
+/// minutes before or after the minute of issue; else `CAN`.
 ///
 /// Source: NWS Instruction 10-1703, P-VTEC action codes; docs/PRODUCTS.md, "Which action a line
 /// gets".
@@ -67,7 +70,7 @@ fn finishing_action(sending: &Sending, row: &Row) -> Action
     }
 }
 
-/// Adds a line.
+/// Appends a line to `lines`.
 ///
 /// # Errors
 ///
@@ -78,7 +81,8 @@ pub fn add_line(lines: &mut List<Line>, line: &Line) -> Result<(), Oom>
     lines.extend(&[*line])
 }
 
-/// Adds the line of a finish; none if there is no row.
+/// Appends the line, `UPG`, `EXP` or `CAN`, that ends `row`, the row of a finished event in a zone,
+/// or nothing if `row` is `None`.
 fn add_finish(lines: &mut List<Line>, sending: &Sending, row: &Option<Row>) -> Result<(), Oom>
     requires { have_finish sending.now.intents ≡ true }
     ensures { OnOk result (lines.new ≡ lines.old
@@ -93,7 +97,8 @@ fn add_finish(lines: &mut List<Line>, sending: &Sending, row: &Option<Row>) -> R
     }
 }
 
-/// Adds the line of a restate; none if there is no row.
+/// Appends the `CON` line of `row`, the row of a restated event in a zone, or nothing if `row` is
+/// `None`. `t` is the minute of issue.
 fn add_restate(lines: &mut List<Line>, t: Minute, row: &Option<Row>) -> Result<(), Oom>
     ensures { OnOk result (lines.new ≡ lines.old ++ restate_lines t row.now) }
 {
@@ -103,7 +108,8 @@ fn add_restate(lines: &mut List<Line>, t: Minute, row: &Option<Row>) -> Result<(
     }
 }
 
-/// Returns the line of a routine intent in a zone: `ROU`, with zero times.
+/// Returns the line of a routine intent in a zone: `ROU`, with both times as zeros and no flood
+/// values.
 fn routine_line(event: &Event, zone: &Zone) -> Line
     ensures { result ≡ routine_line event.now zone.now }
 {
@@ -117,7 +123,8 @@ fn routine_line(event: &Event, zone: &Zone) -> Line
     }
 }
 
-/// Returns the action of a put in a zone without an unended row. Other intents do not use it.
+/// Returns the action, `NEW`, `EXA` or `EXB`, that a put has in each of its zones where its event
+/// has no row, or one that a line has ended. For other intents it is `NEW`, which is not used.
 fn opening_of(sending: &Sending, p: &Placed) -> Action
     ensures { result ≡ opening_of sending.now.rows sending.now.minute p.now.event p.now.intent }
 {
@@ -127,7 +134,9 @@ fn opening_of(sending: &Sending, p: &Placed) -> Action
     }
 }
 
-/// Adds the line of an intent in one of its zones. `opening` is `opening_of` the intent.
+/// Appends the line of an intent in `zone`, one of its zones, or nothing for a finish or a restate
+/// whose event has no row there. `opening` must be the action that `opening_of` returns for the
+/// intent.
 fn add_lines_in(
     lines: &mut List<Line>,
     sending: &Sending,
@@ -145,15 +154,14 @@ fn add_lines_in(
     let board = sending.board();
     let t = sending.minute();
     match p.intent {
-        Intent::Put(part) => add_line(lines, &put_line(board, t, &p.event, part, zone, opening)),
+        Intent::Put(part) => add_line(lines, &line_of_put(board, t, &p.event, part, zone, opening)),
         Intent::Finish(_) => add_finish(lines, sending, &board.row(p.event, *zone)),
         Intent::Restate(_) => add_restate(lines, t, &board.row(p.event, *zone)),
         Intent::Routine(_) => add_line(lines, &routine_line(&p.event, zone)),
     }
 }
 
-/// Adds the lines of an intent in all its zones, in the order written. The opening action is looked
-/// up once.
+/// Appends the lines of an intent in all its zones, in the order in which these were written.
 fn add_lines_of(lines: &mut List<Line>, sending: &Sending, p: &Placed) -> Result<(), Oom>
     requires finish { is_finish p.now.intent ≡ true → have_finish sending.now.intents ≡ true }
     ensures { OnOk result (lines.new ≡ lines.old
@@ -167,7 +175,7 @@ fn add_lines_of(lines: &mut List<Line>, sending: &Sending, p: &Placed) -> Result
     Ok(())
 }
 
-/// Adds the lines of all intents, in the order of places.
+/// Appends the lines of all intents of the draft, in the order of their places.
 fn add_intent_lines(lines: &mut List<Line>, sending: &Sending) -> Result<(), Oom>
     ensures { OnOk result (lines.new ≡ lines.old
         ++ lines_from sending.now.rows sending.now.minute sending.now.intents sending.now.intents) }
@@ -178,7 +186,8 @@ fn add_intent_lines(lines: &mut List<Line>, sending: &Sending) -> Result<(), Oom
     Ok(())
 }
 
-/// Whether the desk follows events of the hazard in products of this category.
+/// Whether products of the category follow up events of the hazard. False for a hazard that the
+/// desk does not issue.
 pub fn follows(category: Category, hazard: &Hazard) -> bool
     ensures { result ≡ follows category (facts_of hazard.now) }
 {
@@ -188,8 +197,9 @@ pub fn follows(category: Category, hazard: &Hazard) -> bool
     }
 }
 
-/// Whether a live row gets an added `CON` line: it is of the draft's category and no flood (FL), an
-/// intent is in its zone, and no intent is on its event there.
+/// Whether a live row gets a `CON` line that no intent asks for: products of the category follow up
+/// its hazard, whose phenomenon is not FL, an intent has its zone, and no intent is on its event in
+/// that zone.
 fn goes_on(category: Category, spoken: &Spoken, row: &Row) -> bool
     ensures { result ≡ goes_on category spoken.now row.now }
 {
@@ -199,14 +209,16 @@ fn goes_on(category: Category, spoken: &Spoken, row: &Row) -> bool
         && !spoken.speaks(&row.event, &row.zone)
 }
 
-/// Whether a row is live and gets an added `CON` line.
+/// Whether a row is live at `t`, the minute of issue, and gets a `CON` line that no intent asks
+/// for, as `goes_on` tests.
 fn is_continued(category: Category, t: Minute, spoken: &Spoken, row: &Row) -> bool
     ensures { result ≡ is_continued category t spoken.now row.now }
 {
     is_live(row, t) && goes_on(category, spoken, row)
 }
 
-/// Adds `CON` for each of these rows that gets an added line.
+/// Appends a `CON` line for each of `rows` that gets one although no intent asks for it, as
+/// `is_continued` tests at minute of issue `t`. The lines are in the order of `rows`.
 fn add_going_on(
     lines: &mut List<Line>,
     category: Category,
@@ -225,8 +237,8 @@ fn add_going_on(
     Ok(())
 }
 
-/// Adds `CON` for the rows of a zone that get an added line. Looks at the board's live rows of the
-/// zone, so most ended ones are skipped.
+/// Appends a `CON` line, in the order of events, for each row of a zone that gets one although no
+/// intent asks for it, as `is_continued` tests. Most ended rows of the board are not looked at.
 fn add_in_zone(
     lines: &mut List<Line>,
     sending: &Sending,
@@ -244,7 +256,8 @@ fn add_in_zone(
     add_going_on(lines, category, t, sending.spoken(), rows)
 }
 
-/// Adds `CON` for the rows of these zones that get an added line.
+/// Appends a `CON` line for each row of these zones that gets one although no intent asks for it,
+/// as `is_continued` tests. The lines are in the order of `zones`, and in a zone in that of events.
 fn add_in_zones(
     lines: &mut List<Line>,
     sending: &Sending,
@@ -262,7 +275,9 @@ fn add_in_zones(
     Ok(())
 }
 
-/// Adds `CON` for all rows that get an added line. Looks only at the zones of the intents.
+/// Appends a `CON` line, by zone and then by event, for each row of the board that gets one
+/// although no intent asks for it, as `is_continued` tests. Only the zones of the intents are
+/// looked at.
 fn add_continued(
     alloc: Global,
     lines: &mut List<Line>,
@@ -276,8 +291,9 @@ fn add_continued(
     add_in_zones(lines, sending, category, zones.as_slice())
 }
 
-/// Returns the lines of a draft: those of the intents, by place and then by zone as written; then
-/// the added `CON` lines, by zone and then by event.
+/// Returns the lines of a draft: those of the intents, in the order of the draft and for each in
+/// the order in which its zones were written; then `CON` for the other live rows of the category in
+/// the draft's zones, by zone and then by event.
 ///
 /// # Errors
 ///

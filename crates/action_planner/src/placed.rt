@@ -36,7 +36,7 @@ pub fn zones_of(intent: &Intent) -> &[Zone]
     }
 }
 
-/// Whether the intent puts a new event of this hazard.
+/// Whether the intent opens a new event of this hazard.
 fn opens_hazard(hazard: &Hazard, intent: &Intent) -> bool
     ensures { result ≡ opens_hazard hazard.now intent.now }
 {
@@ -49,7 +49,7 @@ fn opens_hazard(hazard: &Hazard, intent: &Intent) -> bool
     }
 }
 
-/// Returns how many of the intents put a new event of this hazard.
+/// Returns the number of intents that open a new event of this hazard.
 fn openings(hazard: &Hazard, intents: &[Intent]) -> usize
     ensures value { result ≡ count_by (opens_hazard hazard.now) intents.now }
     ensures few { result ≤ length intents.now }
@@ -60,8 +60,9 @@ fn openings(hazard: &Hazard, intents: &[Intent]) -> usize
         .count()
 }
 
-/// Returns the new event of a hazard: its number is one more than those drawn in the year of `t`
-/// and those of the earlier intents.
+/// Returns the new event of a hazard in the year of `t`, the minute of issue. Its number is one
+/// more than how many numbers of the hazard `numbers` has drawn in that year and `earlier`, the
+/// draft's intents before this one, draw.
 fn new_event(numbers: &Numbers, t: Minute, earlier: &[Intent], hazard: &Hazard) -> Event
     requires { length earlier.now ≤ 64 }
     ensures { result ≡ new_event numbers.now.counts t earlier.now hazard.now }
@@ -76,7 +77,9 @@ fn new_event(numbers: &Numbers, t: Minute, earlier: &[Intent], hazard: &Hazard) 
     }
 }
 
-/// Returns the event of an intent, given the intents before it. A routine intent has number 0.
+/// Returns the event of an intent of a draft: the new one of a put that opens one, with number 0 in
+/// the year of `t` for a routine intent, and else the event that the intent names. `earlier` are
+/// the draft's intents before it, which draw numbers first, and `t` is the minute of issue.
 fn event_of_intent(numbers: &Numbers, t: Minute, earlier: &[Intent], intent: &Intent) -> Event
     requires { length earlier.now ≤ 64 }
     ensures { result ≡ event_of_intent numbers.now.counts t earlier.now intent.now }
@@ -96,8 +99,9 @@ fn event_of_intent(numbers: &Numbers, t: Minute, earlier: &[Intent], intent: &In
     }
 }
 
-/// Returns the intents at their places, each with its event. A new event has the number after those
-/// drawn in the year of `t` and those of the earlier places.
+/// Returns the intents with their places, in the same order, each with its event. A new event is of
+/// the year of `t`, the minute of issue, and its number is the next after those that `numbers` has
+/// drawn of its hazard in that year and those that the intents before it draw.
 ///
 /// # Errors
 ///
@@ -125,7 +129,7 @@ pub fn place_all<'a>(
     Ok(ps)
 }
 
-/// Whether the intent puts a new event.
+/// Whether the intent opens a new event.
 pub fn is_opening(intent: &Intent) -> bool
     ensures { result ≡ is_opening intent.now }
 {
@@ -138,7 +142,7 @@ pub fn is_opening(intent: &Intent) -> bool
     }
 }
 
-/// Returns the events that the intents open, in the order of places.
+/// Returns the new events that the intents open, in the order of `ps`.
 ///
 /// # Errors
 ///

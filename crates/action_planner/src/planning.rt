@@ -24,6 +24,13 @@ use office_types::{Draft, Plan, Refusal};
 use segmenter::segments;
 use std::alloc::Global;
 
+/// Returns the plan of a draft of the category with `lines`, which are the draft's: their segments,
+/// the events that its intents `ps` open, and the texts of each event that has a line. It has no
+/// BBB letter, as it is no correction.
+///
+/// # Errors
+///
+/// Out of memory.
 fn plan_of(alloc: Global, category: Category, lines: List<Line>, ps: &[Placed]) -> Result<Plan, Oom>
     ensures { IfOk result (λ plan. HasLines category lines ps.now plan) }
 {

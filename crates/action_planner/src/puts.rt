@@ -1,14 +1,14 @@
 //! The line, the period and the row of a put in a zone. An unended row is one that no line has
 //! ended.
 ghost use Rattle.std.specs.Prelude.{◌≡◌};
-ghost use Rattle.action_planner.specs.Lines.{minute_of, put_period, put_period_on, printed_begin, opening_action, opening_line_by, carried_line, continuing_line, unless_ended, joined_row, put_line, row_after_put};
+ghost use Rattle.action_planner.specs.Lines.{minute_of, period_of_put, period_of_put_on, printed_begin, opening_action, opening_line_by, carried_line, continuing_line, unless_ended, joined_row, line_of_put, row_after_put};
 
 use event_life::same_at;
 use hazard_board::Board;
 use hazard_types::{Action, Begin, Event, Flood, Line, Minute, Period, Row, Zone};
 use office_types::{PutPart, Target};
 
-/// Returns the minute of a begin: `t`, the minute of issue, for `Begin::Now`.
+/// Returns the minute of a begin, which for `Begin::Now` is `t`, the minute of issue.
 pub fn minute_of(begin: &Begin, t: Minute) -> Minute
     ensures { result ≡ minute_of begin.now t }
 {
@@ -18,9 +18,10 @@ pub fn minute_of(begin: &Begin, t: Minute) -> Minute
     }
 }
 
-/// Returns the period of a put in a zone where the event has no row or an ended one.
-fn put_period(part: &PutPart, t: Minute) -> Period
-    ensures { result ≡ put_period part.now t }
+/// Returns the period that a put gives to a zone where its event has no row, or one that a line has
+/// ended. `t` is the minute of issue.
+fn period_of_put(part: &PutPart, t: Minute) -> Period
+    ensures { result ≡ period_of_put part.now t }
 {
     Period {
         begin: minute_of(&part.begin, t),
@@ -28,9 +29,10 @@ fn put_period(part: &PutPart, t: Minute) -> Period
     }
 }
 
-/// Returns the period of a put on an unended row. A row that has begun keeps its begin.
-fn put_period_on(part: &PutPart, t: Minute, row: &Row) -> Period
-    ensures { result ≡ put_period_on part.now t row.now }
+/// Returns the period that a put gives to `row`, a row that no line has ended. If the row has begun
+/// at `t`, the minute of issue, it keeps its begin, and else it gets that of the put.
+fn period_of_put_on(part: &PutPart, t: Minute, row: &Row) -> Period
+    ensures { result ≡ period_of_put_on part.now t row.now }
 {
     let begin = if row.period.begin.get() <= t.get() {
         row.period.begin
@@ -43,7 +45,8 @@ fn put_period_on(part: &PutPart, t: Minute, row: &Row) -> Period
     }
 }
 
-/// Returns the begin that a line prints: `None`, printed as zeros, for a begin of at most `t`.
+/// Returns the begin as a line of a product that is issued at `t` has it: `None`, printed as zeros,
+/// if it is not after `t`.
 pub fn printed_begin(begin: Minute, t: Minute) -> Option<Minute>
     ensures { result ≡ printed_begin begin t }
 {
@@ -54,8 +57,9 @@ pub fn printed_begin(begin: Minute, t: Minute) -> Option<Minute>
     }
 }
 
-/// Returns the action of a put in a zone without an unended row: `NEW` for a new event, `EXA` for
-/// an event with a live row of the same period, else `EXB`.
+/// Returns the action of a put in a zone where its event has no row, or one that a line has ended.
+/// It is `NEW` if the put opens the event, `EXA` if a row of the event that is live at `t`, the
+/// minute of issue, has the put's period, and else `EXB`.
 ///
 /// Source: NWS Instruction 10-1703, P-VTEC action codes; docs/PRODUCTS.md, "Which action a line
 /// gets".
@@ -65,7 +69,7 @@ pub fn opening_action(board: &Board, t: Minute, event: &Event, part: &PutPart) -
     match &part.target {
         Target::Fresh(_) => Action::New,
         Target::Join(_) => {
-            if board.same_period(*event, put_period(part, t), t) {
+            if board.same_period(*event, period_of_put(part, t), t) {
                 Action::Exa
             } else {
                 Action::Exb
@@ -74,7 +78,9 @@ pub fn opening_action(board: &Board, t: Minute, event: &Event, part: &PutPart) -
     }
 }
 
-/// Returns the line of a put in a zone without an unended row, with the action given.
+/// Returns the line with this action of a put of `event` in a zone where the event has no row, or
+/// one that a line has ended. Its begin is always printed; for `Begin::Now` it is `t`, the minute
+/// of issue.
 fn opening_line(t: Minute, event: &Event, part: &PutPart, zone: &Zone, action: Action) -> Line
     ensures { result ≡ opening_line_by action t event.now part.now zone.now }
 {
@@ -88,8 +94,10 @@ fn opening_line(t: Minute, event: &Event, part: &PutPart, zone: &Zone, action: A
     }
 }
 
-/// Returns the line on an unended row that is to have this period and these flood values: `CON` if
-/// its period stays the same, else `EXT`.
+/// Returns the line that gives this period and these flood values to `row`, the row of `event` that
+/// no line has ended: `CON` if the row has the same period, else `EXT`. Periods are the same at
+/// `t`, the minute of issue, if their ends are equal and their begins are equal or both not after
+/// `t`.
 pub fn carried_line(
     t: Minute,
     event: &Event,
@@ -114,14 +122,16 @@ pub fn carried_line(
     }
 }
 
-/// Returns the line of a put on an unended row: `CON` if its period stays the same, else `EXT`.
+/// Returns the line of a put on `row`, the row of `event` that no line has ended: `CON` if the row
+/// keeps its period, else `EXT`. A begin at or before `t`, the minute of issue, is kept and printed
+/// as zeros.
 fn continuing_line(t: Minute, event: &Event, part: &PutPart, row: &Row) -> Line
     ensures { result ≡ continuing_line t event.now part.now row.now }
 {
-    carried_line(t, event, &put_period_on(part, t, row), part.flood, row)
+    carried_line(t, event, &period_of_put_on(part, t, row), part.flood, row)
 }
 
-/// Returns the row unless a line has ended it.
+/// Returns the row if there is one and no line has ended it, else `None`.
 pub fn unless_ended(row: Option<Row>) -> Option<Row>
     ensures { result ≡ unless_ended row }
 {
@@ -131,7 +141,8 @@ pub fn unless_ended(row: Option<Row>) -> Option<Row>
     }
 }
 
-/// Returns the unended row that a put changes in a zone. A put of a new event changes none.
+/// Returns the row of the event in the zone, if the put with this target joins the event and no
+/// line has ended the row. `None` if there is no such row or the put opens a new event.
 fn joined_row(board: &Board, event: &Event, zone: &Zone, target: &Target) -> Option<Row>
     ensures { result ≡ joined_row board.now.rows event.now zone.now target.now }
 {
@@ -141,8 +152,10 @@ fn joined_row(board: &Board, event: &Event, zone: &Zone, target: &Target) -> Opt
     }
 }
 
-/// Returns the line of a put in a zone. `opening` is `opening_action` of the put.
-pub fn put_line(
+/// Returns the line that a put of `event` has in `zone`, one of its zones, at minute of issue `t`.
+/// `opening` must be what `opening_action` returns for the put; it is the line's action if the
+/// event has no row in the zone, or one that a line has ended.
+pub fn line_of_put(
     board: &Board,
     t: Minute,
     event: &Event,
@@ -151,7 +164,7 @@ pub fn put_line(
     opening: Action,
 ) -> Line
     requires { opening ≡ opening_action board.now.rows t event.now part.now part.now.target }
-    ensures { result ≡ put_line board.now.rows t event.now part.now zone.now }
+    ensures { result ≡ line_of_put board.now.rows t event.now part.now zone.now }
 {
     match joined_row(board, event, zone, &part.target) {
         None => opening_line(t, event, part, zone, opening),
@@ -159,13 +172,14 @@ pub fn put_line(
     }
 }
 
-/// Returns the row that a put leaves in a zone.
+/// Returns the row that the event has in a zone after a put of it at minute of issue `t`, unended
+/// and with the put's period and flood values. A row that had begun at `t` keeps its begin.
 pub fn row_after_put(board: &Board, t: Minute, event: &Event, part: &PutPart, zone: &Zone) -> Row
     ensures { result ≡ row_after_put board.now.rows t event.now part.now zone.now }
 {
     let period = match joined_row(board, event, zone, &part.target) {
-        None => put_period(part, t),
-        Some(row) => put_period_on(part, t, &row),
+        None => period_of_put(part, t),
+        Some(row) => period_of_put_on(part, t, &row),
     };
     Row {
         event: *event,

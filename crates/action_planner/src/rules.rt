@@ -11,7 +11,7 @@ ghost use Rattle.action_planner.specs.Offences.{first_by, refused_clash, too_man
 ghost use Rattle.action_planner.specs.Rules.{offence, first_against, broken_early, broken_late};
 
 use crate::intent_rules::{
-    bad_period, barred_flood, needed_flood, not_open, number_held, numbers_spent, open_end,
+    bad_period, barred_flood, barred_open_end, needed_flood, not_open, number_held, numbers_spent,
     site_moved,
 };
 use crate::placed::Placed;
@@ -56,7 +56,8 @@ const BEFORE_CONFLICT: [Rule; 10] = [
 /// The rules that are tested after Conflict, in order.
 const ON_NUMBERS: [Rule; 2] = [Rule::NumberHeld, Rule::NumbersSpent];
 
-/// Returns the refusal of one intent under one rule.
+/// Returns the refusal of the intent `p` under one rule, or `None` if it keeps the rule. `spoken`
+/// has all intents of the draft, and `t` is the minute of issue.
 fn offence(board: &Board, t: Minute, spoken: &Spoken, rule: Rule, p: &Placed) -> Option<Refusal>
     requires consistent { IsConsistent board.now.rows t }
     requires place { p.now.place < 64 }
@@ -69,7 +70,7 @@ fn offence(board: &Board, t: Minute, spoken: &Spoken, rule: Rule, p: &Placed) ->
         Rule::Twice => zone_offence(board, t, spoken, ZoneRule::Twice, p),
         Rule::BadPeriod => bad_period(t, p),
         Rule::BegunMoved => zone_offence(board, t, spoken, ZoneRule::BegunMoved, p),
-        Rule::NoOpenEnd => open_end(p),
+        Rule::NoOpenEnd => barred_open_end(p),
         Rule::FloodNeeded => needed_flood(p),
         Rule::FloodBarred => barred_flood(p),
         Rule::SiteMoved => site_moved(board, p),
@@ -78,7 +79,8 @@ fn offence(board: &Board, t: Minute, spoken: &Spoken, rule: Rule, p: &Placed) ->
     }
 }
 
-/// Returns the refusal of the first intent that breaks the rule.
+/// Returns the refusal of the first intent of the draft that breaks the rule, or `None` if all keep
+/// it. `spoken` has the intents, in their order, and `t` is the minute of issue.
 fn first_offence(board: &Board, t: Minute, spoken: &Spoken, rule: Rule) -> Option<Refusal>
     requires consistent { IsConsistent board.now.rows t }
     requires places { All (λ (p : PlacedIntent). p.place < 64) spoken.now }
@@ -93,7 +95,9 @@ fn first_offence(board: &Board, t: Minute, spoken: &Spoken, rule: Rule) -> Optio
     None
 }
 
-/// Returns the refusal under the first of `rules` that an intent breaks.
+/// Returns the refusal under the first of `rules`, in their order, that an intent of the draft
+/// breaks, for the first such intent. `None` if all intents keep all of them; `t` is the minute of
+/// issue.
 fn first_against(board: &Board, t: Minute, spoken: &Spoken, rules: &[Rule]) -> Option<Refusal>
     requires consistent { IsConsistent board.now.rows t }
     requires places { All (λ (p : PlacedIntent). p.place < 64) spoken.now }
@@ -108,8 +112,10 @@ fn first_against(board: &Board, t: Minute, spoken: &Spoken, rules: &[Rule]) -> O
     None
 }
 
-/// Conflict: after the lines two live rows of one family overlap in a zone. Names the first such
-/// pair, by zone and then by events.
+/// Returns the refusal Conflict if two rows of one family in one zone are live at `t` and overlap
+/// once a product with `lines` is issued at `t`, else `None`. It names the first such pair, by
+/// zone, then by the first event and the second. Among the rows of the board that no line has ended
+/// there must be no such overlap before.
 ///
 /// # Errors
 ///
@@ -133,7 +139,7 @@ pub fn conflict(
     }))
 }
 
-/// TooManyLines: more than 2,000 lines.
+/// Returns the refusal TooManyLines if the number of lines is above 2,000, else `None`.
 pub fn too_many(lines: usize) -> Option<Refusal>
     ensures { result ≡ too_many lines }
 {
@@ -144,8 +150,9 @@ pub fn too_many(lines: usize) -> Option<Refusal>
     }
 }
 
-/// Returns the first broken rule among those that need no lines: EmptyDraft, then those of
-/// `BEFORE_CONFLICT`.
+/// Returns the refusal under the first broken rule among those that are tested without lines, at
+/// minute of issue `t`, or `None` if all are kept. In order they are EmptyDraft, NoEvent, NotLive,
+/// LeftBefore, Twice, BadPeriod, BegunMoved, NoOpenEnd, FloodNeeded, FloodBarred and SiteMoved.
 #[tactic(auto, unfolding(crate::specs::Rules::broken_early))]
 pub fn broken_early(board: &Board, t: Minute, spoken: &Spoken) -> Option<Refusal>
     requires consistent { IsConsistent board.now.rows t }
@@ -158,8 +165,9 @@ pub fn broken_early(board: &Board, t: Minute, spoken: &Spoken) -> Option<Refusal
     first_against(board, t, spoken, &BEFORE_CONFLICT)
 }
 
-/// Returns the first broken rule among those that come after `broken_early`: Conflict, then
-/// NumberHeld and NumbersSpent, then TooManyLines.
+/// Returns the refusal under the first broken rule among those that are tested after
+/// `broken_early`, or `None` if all are kept: Conflict, then NumberHeld and NumbersSpent, then
+/// TooManyLines. `lines` are those of the draft `spoken`, and `t` is the minute of issue.
 ///
 /// # Errors
 ///

@@ -46,7 +46,8 @@ impl<'a> Model for Sending<'a> {
         → s.put.entries ≡ add_rows [] (rows_by_puts s.board.now.rows s.minute s.spoken.now) };
 }
 
-/// Whether the first hazard is of the second's family and of a higher rank.
+/// Whether the hazard `high` is of the same family as `low` and of a higher rank in it. False if
+/// the desk does not issue one of them, or one has no family.
 ///
 /// Source: docs/HAZARDS.md.
 fn outranks(high: &Hazard, low: &Hazard) -> bool
@@ -61,8 +62,8 @@ fn outranks(high: &Hazard, low: &Hazard) -> bool
     *family == *other && *least < *rank
 }
 
-/// Whether `other` is a live row in the zone of `row`, of a higher rank of its family, and overlaps
-/// it.
+/// Whether `other` is a row in the same zone as `row` that is live at `t`, has a hazard of a higher
+/// rank in the same family, and has a period that overlaps that of `row`.
 fn overlays(t: Minute, row: &Row, other: &Row) -> bool
     ensures { result ≡ overlays t row.now other.now }
 {
@@ -72,13 +73,17 @@ fn overlays(t: Minute, row: &Row, other: &Row) -> bool
         && overlaps(&other.period, &row.period)
 }
 
+/// Whether one of `others` is in the same zone as `row`, live at `t`, of a higher rank in the same
+/// family, and overlaps it, as `overlays` tests.
 fn any_overlays(t: Minute, row: &Row, others: &[Row]) -> bool
     ensures { result ≡ list_any (overlays t row.now) others.now }
 {
     others.iter().any(|other| overlays(t, row, other))
 }
 
-/// Whether one of the rows `stand` that the draft leaves, or one of the rows `put`, overlays `row`.
+/// Whether a row after the draft overlays `row` at `t`, as `overlays` tests. It may be one of
+/// `put`, the rows that the draft's puts leave, or one of `stand`, rows before the draft, if no put
+/// and no finish is on its event in its zone.
 fn is_overlaid_by(t: Minute, row: &Row, stand: &[Row], put: &[Row], spoken: &Spoken) -> bool
     ensures { result
         ≡ (list_any (λ other. overlays t row.now other && is_left spoken.now other) stand.now
@@ -87,7 +92,7 @@ fn is_overlaid_by(t: Minute, row: &Row, stand: &[Row], put: &[Row], spoken: &Spo
     any_left_overlays(t, row, stand, spoken) || any_overlays(t, row, put)
 }
 
-/// Returns the rows of a zone.
+/// Returns the rows of a zone in `zones`, empty if there are none.
 fn rows_in<'a>(zones: &'a Zones, zone: &Zone) -> &'a [Row]
     ensures { result.now ≡ rows_in zones.now.entries zone.now }
 {
@@ -97,7 +102,7 @@ fn rows_in<'a>(zones: &'a Zones, zone: &Zone) -> &'a [Row]
     }
 }
 
-/// Adds a row after those of its zone.
+/// Appends a row to those of its zone in `zones`.
 fn add_row(alloc: Global, zones: &mut Zones, row: &Row) -> Result<(), Oom>
     ensures { OnOk result (zones.new.entries ≡ add_row zones.old.entries row.now) }
 {
@@ -105,14 +110,16 @@ fn add_row(alloc: Global, zones: &mut Zones, row: &Row) -> Result<(), Oom>
     rows.extend(&[*row])
 }
 
-/// Whether no put and no finish is on the row.
+/// Whether the draft has no put and no finish on the row's event in the row's zone, so that the row
+/// stays as it is.
 fn is_left(spoken: &Spoken, row: &Row) -> bool
     ensures { result ≡ is_left spoken.now row.now }
 {
     !spoken.is_taken(&row.event, &row.zone)
 }
 
-/// Whether one of `others` that no put and no finish is on overlays `row`.
+/// Whether one of `others`, rows before the draft, overlays `row` at `t`, as `overlays` tests, and
+/// is left as it is: no put and no finish of the draft is on its event in its zone.
 fn any_left_overlays(t: Minute, row: &Row, others: &[Row], spoken: &Spoken) -> bool
     ensures { result
         ≡ list_any (λ other. overlays t row.now other && is_left spoken.now other) others.now }
@@ -122,7 +129,8 @@ fn any_left_overlays(t: Minute, row: &Row, others: &[Row], spoken: &Spoken) -> b
         .any(|other| overlays(t, row, other) && is_left(spoken, other))
 }
 
-/// Adds the rows that a put leaves.
+/// Appends to `zones`, in the order in which the put's zones were written, the row that a put of
+/// `event` leaves in each of them. `board` has the rows before it, and `t` is the minute of issue.
 fn add_put(
     alloc: Global,
     zones: &mut Zones,
@@ -140,7 +148,8 @@ fn add_put(
     Ok(())
 }
 
-/// Adds the rows that an intent leaves; only a put leaves any.
+/// Appends to `zones` the rows that the intent `p` leaves, one in each of its zones for a put and
+/// none for another intent. `board` has the rows before it, and `t` is the minute of issue.
 fn add_rows_by(
     alloc: Global,
     zones: &mut Zones,
@@ -157,7 +166,8 @@ fn add_rows_by(
     }
 }
 
-/// Adds the rows that all puts among the intents leave.
+/// Appends to `zones` the rows that the puts among the intents `ps` leave, in the order of `ps`.
+/// `board` has the rows before them, and `t` is the minute of issue.
 fn add_by_puts(
     alloc: Global,
     zones: &mut Zones,
@@ -174,9 +184,10 @@ fn add_by_puts(
     Ok(())
 }
 
-/// Returns the rows that the puts leave, by zone.
+/// Returns the rows that the puts of a draft leave, by zone, and for one zone in the order of the
+/// intents. `board` has the rows before the draft, and `t` is the minute of issue.
 #[tactic(auto, using(crate::proofs::SendingLemmas::all_put))]
-fn put_rows(alloc: Global, board: &Board, t: Minute, spoken: &Spoken) -> Result<Zones, Oom>
+fn rows_after_puts(alloc: Global, board: &Board, t: Minute, spoken: &Spoken) -> Result<Zones, Oom>
     ensures { IfOk result
         (λ zones. zones.entries ≡ add_rows [] (rows_by_puts board.now.rows t spoken.now)) }
 {
@@ -185,6 +196,7 @@ fn put_rows(alloc: Global, board: &Board, t: Minute, spoken: &Spoken) -> Result<
     Ok(zones)
 }
 
+/// Whether an intent is a finish, which ends an event in zones.
 fn is_finish(intent: &Intent) -> bool
     ensures { result ≡ is_finish intent.now }
 {
@@ -194,15 +206,16 @@ fn is_finish(intent: &Intent) -> bool
     }
 }
 
+/// Whether one of the intents is a finish, which ends an event in zones.
 fn have_finish(ps: &[Placed]) -> bool
     ensures { result ≡ have_finish ps.now }
 {
     ps.iter().any(|p| is_finish(p.intent))
 }
 
-/// Returns the rows that the puts leave, by zone, if one of the intents is a finish; else an empty
-/// map.
-fn put_rows_for_finish(
+/// Returns the rows that the puts of a draft leave, by zone, if one of its intents is a finish;
+/// else an empty map. `board` has the rows before the draft, and `t` is the minute of issue.
+fn rows_after_puts_for_finish(
     alloc: Global,
     board: &Board,
     t: Minute,
@@ -212,14 +225,15 @@ fn put_rows_for_finish(
         → zones.entries ≡ add_rows [] (rows_by_puts board.now.rows t spoken.now)) }
 {
     if have_finish(spoken.intents()) {
-        put_rows(alloc, board, t, spoken)
+        rows_after_puts(alloc, board, t, spoken)
     } else {
         Ok(BTreeMap::new(alloc))
     }
 }
 
 impl<'a> Sending<'a> {
-    /// Returns these intents as a draft that is sent at `minute` over `board`.
+    /// Returns the intents `spoken` as a draft that is sent at `minute`, the minute of issue, over
+    /// `board`, which has the rows before it.
     ///
     /// # Errors
     ///
@@ -233,7 +247,7 @@ impl<'a> Sending<'a> {
         ensures { IfOk result (λ sending.
             sending ≡ record { rows = board.now.rows; minute = minute; intents = spoken.now }) }
     {
-        let put = put_rows_for_finish(alloc, board, minute, spoken)?;
+        let put = rows_after_puts_for_finish(alloc, board, minute, spoken)?;
         Ok(Sending {
             board,
             minute,
@@ -249,22 +263,22 @@ impl<'a> Sending<'a> {
         self.board
     }
 
-    /// Returns the minute of issue.
+    /// Returns the minute of issue of the product.
     pub fn minute(&self) -> Minute
         ensures { result ≡ self.now.minute }
     {
         self.minute
     }
 
-    /// Returns the intents with their look-ups.
+    /// Returns the intents of the draft, with look-ups over them.
     pub fn spoken(&self) -> &'a Spoken<'a>
         ensures { result.now ≡ self.now.intents }
     {
         self.spoken
     }
 
-    /// Whether a row of a higher rank of the family is live after the draft and overlaps this one
-    /// in its zone.
+    /// Whether another row of this row's zone and family, of a higher rank, is live after the draft
+    /// and overlaps it. One of the draft's intents must be a finish.
     pub fn is_overlaid(&self, row: &Row) -> bool
         requires { have_finish self.now.intents ≡ true }
         ensures { result ≡ is_overlaid self.now.rows self.now.minute self.now.intents row.now }

@@ -55,6 +55,7 @@ impl<'a> Model for Spoken<'a> {
     ghost invariant = { λ s. IsIndex s.ps.now s.spots.entries s.zones.keys };
 }
 
+/// Whether an intent puts or ends an event, so that it may open, change or end a row.
 fn puts_or_finishes(intent: &Intent) -> bool
     ensures { result ≡ puts_or_finishes intent.now }
 {
@@ -64,7 +65,8 @@ fn puts_or_finishes(intent: &Intent) -> bool
     }
 }
 
-/// Returns the intents on an event in a zone after one more is added.
+/// Returns what is known of the intents on one event in one zone once `p` is among them. `held` is
+/// what was known before, or `None` if there were none.
 fn with_intent(held: Option<IntentsOn>, p: &Placed) -> IntentsOn
     ensures { result ≡ with_intent held p.now }
 {
@@ -83,7 +85,8 @@ fn with_intent(held: Option<IntentsOn>, p: &Placed) -> IntentsOn
     }
 }
 
-/// Whether one of these intents is at another place than `place`.
+/// Whether one of the intents in `held` is at another place of the draft than `place`; false for
+/// `None`.
 fn has_other(held: Option<IntentsOn>, place: usize) -> bool
     ensures { result ≡ has_other place held }
 {
@@ -93,7 +96,7 @@ fn has_other(held: Option<IntentsOn>, place: usize) -> bool
     }
 }
 
-/// Adds an intent to those on its event in one zone.
+/// Counts the intent `p` among those that `spots` has on its event in `zone`, one of its zones.
 fn add_spot(spots: &mut BTreeMap<Spot, IntentsOn>, p: &Placed, zone: &Zone) -> Result<(), Oom>
     ensures { OnOk result (spots.new.entries ≡ add_spot spots.old.entries p.now zone.now) }
 {
@@ -101,12 +104,12 @@ fn add_spot(spots: &mut BTreeMap<Spot, IntentsOn>, p: &Placed, zone: &Zone) -> R
         event: p.event,
         zone: *zone,
     };
-    let speakers = with_intent(spots.get(&spot).copied(), p);
-    spots.insert(spot, speakers)?;
+    let intents_on = with_intent(spots.get(&spot).copied(), p);
+    spots.insert(spot, intents_on)?;
     Ok(())
 }
 
-/// Adds an intent to those on its event in each of its zones.
+/// Counts the intent `p` among those that `spots` has on its event, in each of its zones.
 fn add_spots(spots: &mut BTreeMap<Spot, IntentsOn>, p: &Placed) -> Result<(), Oom>
     ensures { OnOk result
         (spots.new.entries ≡ add_spots spots.old.entries p.now (zones_of p.now.intent)) }
@@ -117,7 +120,8 @@ fn add_spots(spots: &mut BTreeMap<Spot, IntentsOn>, p: &Placed) -> Result<(), Oo
     Ok(())
 }
 
-/// Returns the intents on each event in each zone.
+/// Returns what is known of the intents on each event in each zone, by event and zone. Only an
+/// event and a zone that an intent is on have an entry.
 fn spots_of(alloc: Global, ps: &[Placed]) -> Result<BTreeMap<Spot, IntentsOn>, Oom>
     ensures { IfOk result (λ spots. spots.entries ≡ spots_from [] ps.now) }
 {
@@ -128,6 +132,7 @@ fn spots_of(alloc: Global, ps: &[Placed]) -> Result<BTreeMap<Spot, IntentsOn>, O
     Ok(spots)
 }
 
+/// Adds zones to the set `held`.
 fn add_zones(held: &mut BTreeSet<Zone>, zones: &[Zone]) -> Result<(), Oom>
     ensures { OnOk result (held.new.keys ≡ add_zones held.old.keys zones.now) }
 {
@@ -137,7 +142,7 @@ fn add_zones(held: &mut BTreeSet<Zone>, zones: &[Zone]) -> Result<(), Oom>
     Ok(())
 }
 
-/// Returns the zones of all intents.
+/// Returns the set of the zones that the intents `ps` have.
 fn zones_touched(alloc: Global, ps: &[Placed]) -> Result<BTreeSet<Zone>, Oom>
     ensures { IfOk result (λ zones. zones.keys ≡ zones_from [] ps.now) }
 {
@@ -148,7 +153,7 @@ fn zones_touched(alloc: Global, ps: &[Placed]) -> Result<BTreeSet<Zone>, Oom>
     Ok(zones)
 }
 
-/// Returns the zones of a set, in ascending order.
+/// Returns the zones of a set as a list in ascending order.
 fn listed(alloc: Global, zones: &BTreeSet<Zone>) -> Result<List<Zone>, Oom>
     ensures zones { IfOk result (λ list. list ≡ zones.now.keys) }
     ensures order { IfOk result (λ list. IsStrictlySortedBy by_place list) }
@@ -161,7 +166,7 @@ fn listed(alloc: Global, zones: &BTreeSet<Zone>) -> Result<List<Zone>, Oom>
 }
 
 impl<'a> Spoken<'a> {
-    /// Builds the look-ups over these intents.
+    /// Returns the intents `ps` of a draft with look-ups over them by event and zone.
     ///
     /// # Errors
     ///
@@ -174,15 +179,15 @@ impl<'a> Spoken<'a> {
         Ok(Spoken { ps, spots, zones })
     }
 
-    /// Returns the intents, in the order of places.
+    /// Returns the intents of the draft, in the order of their places.
     pub fn intents(&self) -> &'a [Placed<'a>]
         ensures { result.now ≡ self.now }
     {
         self.ps
     }
 
-    /// Returns the intents that are on the event in the zone.
-    fn speakers(&self, event: &Event, zone: &Zone) -> Option<IntentsOn>
+    /// Returns the intents that are on the event in the zone, or `None` if there is none.
+    fn intents_on(&self, event: &Event, zone: &Zone) -> Option<IntentsOn>
         ensures spoken { is_some result ≡ list_any (speaks event.now zone.now) self.now }
         ensures taken { is_taken result
             ≡ list_any (λ p. puts_or_finishes p.intent && speaks event.now zone.now p) self.now }
@@ -197,29 +202,31 @@ impl<'a> Spoken<'a> {
         self.spots.get(&spot).copied()
     }
 
-    /// Whether an intent is on the event in the zone.
+    /// Whether an intent of the draft is on the event in the zone, that is, has this event and this
+    /// zone.
     pub fn speaks(&self, event: &Event, zone: &Zone) -> bool
         ensures { result ≡ list_any (speaks event.now zone.now) self.now }
     {
-        self.speakers(event, zone).is_some()
+        self.intents_on(event, zone).is_some()
     }
 
-    /// Whether a put or a finish is on the event in the zone.
+    /// Whether an intent of the draft that is a put or a finish is on the event in the zone, that
+    /// is, has this event and this zone.
     pub fn is_taken(&self, event: &Event, zone: &Zone) -> bool
         ensures { result
             ≡ list_any (λ p. puts_or_finishes p.intent && speaks event.now zone.now p) self.now }
     {
-        match self.speakers(event, zone) {
-            Some(speakers) => speakers.taken,
+        match self.intents_on(event, zone) {
+            Some(intents_on) => intents_on.taken,
             None => false,
         }
     }
 
-    /// Whether an intent at another place is on the same event in the zone.
+    /// Whether an intent at another place of the draft than `p` is on the event of `p` in the zone.
     pub fn is_shared(&self, p: &Placed, zone: &Zone) -> bool
         ensures { result ≡ is_shared self.now p.now zone.now }
     {
-        has_other(self.speakers(&p.event, zone), p.place)
+        has_other(self.intents_on(&p.event, zone), p.place)
     }
 
     /// Whether one of the intents has the zone.

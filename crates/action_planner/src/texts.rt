@@ -9,6 +9,7 @@ use office_types::{EventTexts, Intent, Texts};
 use std::alloc::Global;
 use std::collections::BTreeSet;
 
+/// Returns the texts of an intent: what, area, impacts and details.
 fn texts_of(intent: &Intent) -> &Texts
     ensures { result.now ≡ texts_of intent.now }
 {
@@ -44,7 +45,8 @@ pub fn copied(texts: &Texts) -> Result<Texts, Oom>
     Ok(copy)
 }
 
-/// Returns the texts of the first intent on the event; empty texts if there is none.
+/// Returns a copy of the texts of the first intent of `ps` that is on the event, in whatever zone,
+/// or empty texts if there is no such intent.
 fn texts_on(alloc: Global, ps: &[Placed], event: &Event) -> Result<Texts, Oom>
     ensures { IfOk result (λ texts. texts ≡ texts_on ps.now event.now) }
 {
@@ -56,6 +58,7 @@ fn texts_on(alloc: Global, ps: &[Placed], event: &Event) -> Result<Texts, Oom>
     Ok(no_texts(alloc))
 }
 
+/// Adds an event to a set.
 #[tactic(auto, using(crate::proofs::TextLemmas::key_added))]
 fn add_event(events: &mut BTreeSet<Event>, event: &Event) -> Result<(), Oom>
     ensures { OnOk result (events.new.keys ≡ add_event event.now events.old.keys) }
@@ -79,7 +82,8 @@ pub fn events_of(alloc: Global, lines: &[Line]) -> Result<BTreeSet<Event>, Oom>
     Ok(events)
 }
 
-/// Returns each event that has a line with its texts, in ascending order of events.
+/// Returns each event that has a line, in ascending order, with a copy of the texts of the first
+/// intent of `ps` that is on it, or empty texts if none is.
 ///
 /// # Errors
 ///

@@ -8,7 +8,7 @@ ghost use Rattle.hazard_types.specs.declared.line.Line.{Line};
 ghost use Rattle.hazard_types.specs.declared.line.Row.{Row};
 ghost use Rattle.hazard_types.specs.declared.line.Segment.{Segment};
 ghost use Rattle.office_types.specs.declared.request.Intent.{Intent};
-ghost use Rattle.event_life.specs.Openings.{numbers_of, opened_by};
+ghost use Rattle.event_life.specs.Openings.{numbers_of, events_opened_by};
 ghost use Rattle.event_life.specs.Products.{by_key, rows_after};
 ghost use Rattle.event_life.specs.Reordered.{are_lawful};
 ghost use Rattle.event_numbers.specs.declared.Count.{Count};
@@ -20,18 +20,20 @@ ghost use Rattle.action_planner.specs.Lines.{planned_lines};
 ghost use Rattle.action_planner.specs.Placed.{placed, opened};
 ghost use Rattle.action_planner.specs.Told.{counts_in};
 
-/// Of each hazard and year, the NEW lines of a draft, in the order of events, have the same numbers
-/// as the events that it opens, in the order of places.
+/// For each hazard and year, the numbers of the events of a draft's NEW lines, each event once and
+/// in the order of events, are the numbers of the events that the draft opens, in the order of its
+/// intents.
 pub fn new_lines_draw_the_numbers()
     ensures { (c : Category) (rows : List Row) (counts : List Count) (intents : List Intent)
         (t : ℕ) →
         CanPlan rows counts c intents t →
         (h : Hazard) (year : ℕ) →
-        numbers_of h year (opened_by (planned_lines c rows t (placed counts t intents)))
+        numbers_of h year (events_opened_by (planned_lines c rows t (placed counts t intents)))
         ≡ numbers_of h year (opened (placed counts t intents)) }
 {}
 
-/// The rows alone determine how many numbers of each hazard and year were drawn, and so the events
+/// If the events of each hazard and year that have rows are numbered from 1 without a gap up to the
+/// count of drawn numbers, the rows alone determine these counts. So they also determine the events
 /// of a draft's intents.
 pub fn rows_tell_the_numbers()
     ensures counts { (rows : List Row) (counts : List Count) → AreNumbered rows counts →
@@ -40,9 +42,9 @@ pub fn rows_tell_the_numbers()
         AreNumbered rows counts → placed (counts_in rows) t intents ≡ placed counts t intents }
 {}
 
-/// The lines of a text, in the order of its segments, are lawful if and only if those of the plan
-/// are, leave the same rows and open the same events. No two of the lines may be of one event in
-/// one zone.
+/// The lines of a product's text, in the order of its segments, are lawful if and only if the
+/// plan's lines, from which the segments are made, are lawful in their own order. They leave the
+/// same rows and open the same events. No two of the lines may have the same event and zone.
 pub fn texts_say_what_their_lines_say()
     ensures lawful { (rows : List Row) (t : ℕ) (lines : List Line) (segments : List Segment) →
         IsStrictlySortedBy by_key rows → AreSegments lines segments → AllPairs IsApart lines →
@@ -51,5 +53,5 @@ pub fn texts_say_what_their_lines_say()
         IsStrictlySortedBy by_key rows → AreSegments lines segments → AllPairs IsApart lines →
         rows_after rows t (lines_in_text segments) ≡ rows_after rows t lines }
     ensures opened { (lines : List Line) (segments : List Segment) →
-        AreSegments lines segments → opened_by (lines_in_text segments) ≡ opened_by lines }
+        AreSegments lines segments → events_opened_by (lines_in_text segments) ≡ events_opened_by lines }
 {}

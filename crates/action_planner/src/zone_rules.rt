@@ -3,7 +3,7 @@
 ghost use Rattle.std.specs.Prelude.{◌≡◌, ◌&&◌, not, nat_le};
 ghost use Rattle.event_life.specs.Periods.{is_live};
 ghost use Rattle.event_life.specs.Products.{row_at};
-ghost use Rattle.action_planner.specs.Offences.{has_row_by, is_gone, joins_by, joins, was_left, is_shared, is_moved};
+ghost use Rattle.action_planner.specs.Offences.{has_row_by, is_gone, is_join_target, joins, was_left, is_shared, is_moved};
 ghost use Rattle.action_planner.specs.ZoneRules.{is_against, refused, zone_offence};
 
 use crate::placed::{Placed, zones_of};
@@ -14,7 +14,7 @@ use hazard_board::Board;
 use hazard_types::{Event, Minute, Zone};
 use office_types::{Intent, Refusal, Target};
 
-/// Whether the event has a row in the zone whose end has come and that no line has ended.
+/// Whether the event has a row in the zone whose end is not after `t` and that no line has ended.
 fn has_lapsed_row(board: &Board, t: Minute, event: &Event, zone: &Zone) -> bool
     ensures { result ≡ has_row_by (λ row. not row.ended && not (is_live t row))
         (row_at board.now.rows event.now zone.now) }
@@ -25,7 +25,7 @@ fn has_lapsed_row(board: &Board, t: Minute, event: &Event, zone: &Zone) -> bool
     }
 }
 
-/// Whether the event has a live row in the zone whose begin is at most `t`.
+/// Whether the event has a row in the zone that is live at `t` and whose begin is not after `t`.
 fn has_begun_row(board: &Board, t: Minute, event: &Event, zone: &Zone) -> bool
     ensures { result ≡ has_row_by (λ row. is_live t row && nat_le row.period.begin t)
         (row_at board.now.rows event.now zone.now) }
@@ -36,7 +36,10 @@ fn has_begun_row(board: &Board, t: Minute, event: &Event, zone: &Zone) -> bool
     }
 }
 
-/// Whether a finish finds no open row in the zone, or a restate no live one.
+/// Whether the intent is a finish and the event has no row in the zone that keeps it open at `t`,
+/// or a restate and the event has no row there that is live at `t`. A row keeps its event open if
+/// no line has ended it and its end is not more than half an hour before `t`; false for puts and
+/// routine intents.
 fn is_gone(board: &Board, t: Minute, event: &Event, intent: &Intent, zone: &Zone) -> bool
     ensures { result ≡ is_gone board.now.rows t event.now intent.now zone.now }
 {
@@ -53,9 +56,9 @@ fn is_gone(board: &Board, t: Minute, event: &Event, intent: &Intent, zone: &Zone
     }
 }
 
-/// Whether the put joins an event that exists.
-pub fn joins_by(target: &Target) -> bool
-    ensures { result ≡ joins_by target.now }
+/// Whether a put with this target joins an event that exists, rather than opening a new one.
+pub fn is_join_target(target: &Target) -> bool
+    ensures { result ≡ is_join_target target.now }
 {
     match target {
         Target::Fresh(_) => false,
@@ -63,24 +66,26 @@ pub fn joins_by(target: &Target) -> bool
     }
 }
 
-/// Whether the intent is a put that joins an event.
+/// Whether the intent is a put that joins an event that exists.
 fn joins(intent: &Intent) -> bool
     ensures { result ≡ joins intent.now }
 {
     match intent {
-        Intent::Put(part) => joins_by(&part.target),
+        Intent::Put(part) => is_join_target(&part.target),
         Intent::Finish(_) | Intent::Restate(_) | Intent::Routine(_) => false,
     }
 }
 
-/// Whether a joining put finds a row in the zone whose end has come and that no line has ended.
+/// Whether the intent is a put that joins the event and the event has a row in the zone whose end
+/// is not after `t` and that no line has ended.
 fn was_left(board: &Board, t: Minute, event: &Event, intent: &Intent, zone: &Zone) -> bool
     ensures { result ≡ was_left board.now.rows t event.now intent.now zone.now }
 {
     joins(intent) && has_lapsed_row(board, t, event, zone)
 }
 
-/// Whether a joining put begins after `t` and finds a live row in the zone that has begun.
+/// Whether the intent is a put that joins the event with a begin after `t`, the minute of issue,
+/// and the event has a row in the zone that is live at `t` and has begun at `t` or before.
 fn is_moved(board: &Board, t: Minute, event: &Event, intent: &Intent, zone: &Zone) -> bool
     ensures { result ≡ is_moved board.now.rows t event.now intent.now zone.now }
 {
@@ -108,7 +113,8 @@ pub enum ZoneRule {
     BegunMoved,
 }
 
-/// Whether an intent breaks a rule in a zone.
+/// Whether the intent `p` breaks the rule in `zone`, one of its zones, at minute of issue `t`.
+/// `spoken` has all intents of the draft, which the rule Twice is about.
 fn is_against(
     board: &Board,
     t: Minute,
@@ -127,7 +133,7 @@ fn is_against(
     }
 }
 
-/// Returns the refusal of an event in a zone under a rule.
+/// Returns the refusal that is named as the rule, with this event and this zone.
 fn refused(rule: ZoneRule, event: Event, zone: Zone) -> Refusal
     ensures { result ≡ refused rule event zone }
 {
@@ -139,7 +145,9 @@ fn refused(rule: ZoneRule, event: Event, zone: Zone) -> Refusal
     }
 }
 
-/// Returns the refusal of an intent under a rule, for the first zone, as written, that breaks it.
+/// Returns the refusal of the intent `p` under a rule for the first of its zones, as written, in
+/// which it breaks the rule, or `None` if there is none. `spoken` has all intents of the draft, and
+/// `t` is the minute of issue.
 pub fn zone_offence(
     board: &Board,
     t: Minute,

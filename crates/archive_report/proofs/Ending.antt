@@ -1,5 +1,5 @@
 -- A whole run, once its end was told.
-use Rattle.std.proofs.Common.{◌≡◌, ◌≢◌, ◌≤◌, ◌∙◌, ◌⊎◌, inl, inr, ℕ, List, [], ◌++◌, refl, ap, sym, append_assoc, arith, Option, Some, Result, Ok, Err, IfOk, IfErr, OnOk}
+use Rattle.std.proofs.Common.{◌≡◌, ◌≢◌, ◌≤◌, ◌∙◌, ◌⊎◌, inl, inr, ℕ, List, ◌++◌, refl, ap, sym, append_assoc, arith, Option, Some, Result, Ok, Err, IfOk, IfErr, OnOk}
 use Rattle.desk_traits.specs.Faults.{Rose}
 use Rattle.byte_streams.specs.Flows.{Adds, Outflow, Streams, streams}
 use Rattle.byte_streams.proofs.Pieces.{adds_both}

@@ -1,5 +1,5 @@
 -- Pieces that are read one after another, and how a run ends.
-use Rattle.std.proofs.Common.{◌≡◌, ◌∙◌, ◌⊎◌, inl, inr, ℕ, ◌+◌, ◌≤◌, List, [], ◌++◌, length, map, take, drop, refl, ap, sym, subst, append_assoc, append-nil, length-append, arith, true, false, Option, Result, Ok, Err, IfErr, OnOk}
+use Rattle.std.proofs.Common.{◌≡◌, ◌∙◌, ◌⊎◌, inl, inr, ℕ, ◌+◌, ◌≤◌, List, [], ◌++◌, length, map, take, drop, refl, ap, sym, subst, append_assoc, append-nil, length-append, arith, true, false, Result, Ok, Err, IfErr, OnOk}
 use Rattle.std.proofs.lemmas.List.{map-append, take-append-drop, take_all}
 use Rattle.byte_streams.specs.Flows.{Takes, Adds, Inflow, IsAtEnd, Outflow, Streams, streams}
 use Rattle.byte_streams.proofs.Pieces.{adds_both}

@@ -1,5 +1,5 @@
 -- How a report is told piece by piece.
-use Rattle.std.specs.Prelude.{◌≡◌, ◌≤◌, ◌⊎◌, ℕ, ◌+◌, ◌++◌, true, false, List, [], length, map, take, Option, Result, IfOk, IsErrOf}
+use Rattle.std.specs.Prelude.{◌≡◌, ◌≤◌, ◌⊎◌, ℕ, ◌+◌, ◌++◌, true, false, List, [], length, map, take, Result, IfOk, IsErrOf}
 use Rattle.byte_streams.specs.Flows.{Takes, Adds, IsAtEnd, Outflow, Streams}
 use Rattle.event_life.specs.Products.{rows_of}
 use Rattle.event_life.specs.Shown.{shown_at}

@@ -11,7 +11,8 @@ use hazard_types::Oom;
 use product_decoder::is_vtec_by;
 use product_frame::{Frame, FrameSegment, Pair};
 
-/// Returns how many pairs are of the office and class.
+/// Returns how many of the pairs, each a P-VTEC line with the H-VTEC line that may follow it, are
+/// of the office and class of `asked`.
 fn count_by(asked: &Asked, pairs: &[Pair]) -> usize
     ensures { result ≡ length (filter (is_pair_by asked.now.office asked.now.class) pairs.now) }
 {
@@ -37,7 +38,8 @@ fn count_with(count: usize, zones: usize, pairs: usize) -> Result<usize, Oom>
     }
 }
 
-/// Returns how many lines of the office and class the segments have.
+/// Returns how many P-VTEC lines of the office and class of `asked` the segments have, each counted
+/// once for each zone of its segment, or `Oom` if the count overflows.
 fn count_in(asked: &Asked, segments: &[FrameSegment]) -> Result<usize, Oom>
     ensures { IfOk result (λ count. count ≡ count_in asked.now segments.now) }
 {
@@ -49,7 +51,8 @@ fn count_in(asked: &Asked, segments: &[FrameSegment]) -> Result<usize, Oom>
     Ok(count)
 }
 
-/// Returns how many lines of the office and class a frame has.
+/// Returns how many P-VTEC lines of the office and class of `asked` a frame has, each counted once
+/// for each zone of its segment.
 ///
 /// # Errors
 ///

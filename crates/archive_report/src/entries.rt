@@ -3,9 +3,9 @@ ghost use Rattle.std.specs.Prelude.{◌≡◌, ◌++◌, ℕ, List, flat_map, On
 ghost use Rattle.program_ends.specs.Steps.{IsCauseOf};
 ghost use Rattle.archive_report.specs.Pieces.{Halts, Pages};
 
-use crate::lines::put_gap;
+use crate::lines::write_gap;
 use crate::page::flush_if_full;
-use board_text::put_row;
+use board_text::write_row;
 use byte_streams::Sink;
 use hazard_types::{Oom, Row, Text};
 use product_decoder::GapFound;
@@ -17,7 +17,7 @@ pub trait Entry {
     /// The line, as contracts see it.
     ghost line: { Self → List ℕ };
 
-    /// Adds the line.
+    /// Appends the line of the entry, which ends with LF, to `out`.
     ///
     /// # Errors
     ///
@@ -32,7 +32,7 @@ impl Entry for GapFound {
     ghost line = { gap_line };
 
     fn put(&self, alloc: Global, out: &mut Text) -> Result<(), Oom> {
-        put_gap(alloc, out, self)
+        write_gap(alloc, out, self)
     }
 }
 
@@ -42,11 +42,13 @@ impl Entry for Row {
     ghost line = { row_line };
 
     fn put(&self, alloc: Global, out: &mut Text) -> Result<(), Oom> {
-        put_row(alloc, out, self)
+        write_row(alloc, out, self)
     }
 }
 
-/// Adds the lines of the entries to `out`, and writes `out` each time it is large enough.
+/// Appends the lines of the entries, in the order of `entries`, to `out`. Each time `out` then has
+/// 65,536 bytes or more it is written to `output` and emptied; what is left at the end stays in
+/// `out`.
 ///
 /// # Errors
 ///

@@ -11,7 +11,7 @@ ghost use Rattle.archive_report.specs.Readings.{IsNumbered};
 ghost use Rattle.archive_report.specs.Report.{life_line, lives_text, breach_line, findings_text, shown_text, last_line};
 
 use crate::entries::write_entries;
-use crate::lines::{put_breach, put_last, put_shown};
+use crate::lines::{write_breach, write_breach_count, write_shown_line};
 use crate::lives::LastLife;
 use crate::page::{flush, flush_if_full};
 use crate::tally::Tally;
@@ -22,8 +22,9 @@ use product_decoder::{EventLives, Found, GapFound, Reader, Track};
 use program_ends::Stop;
 use std::alloc::Global;
 
-/// Adds a life's line to `out` and remembers its texts in `last`; writes `out` once it is large
-/// enough.
+/// Appends the line of a life to `out`, then writes `out` to `output` and empties it if it has
+/// 65,536 bytes or more. `last` keeps the texts of the life's event and steps for the next line,
+/// which often has the same. If it fails, a prefix of `out` with the line was written.
 fn write_life<K: Sink>(
     alloc: Global,
     out: &mut Text,
@@ -42,7 +43,9 @@ fn write_life<K: Sink>(
     flush_if_full(alloc, out, output)
 }
 
-/// Adds the lives of an event.
+/// Appends the `life` lines of an event to `out`, one for each of its zones, by zone. Each time
+/// `out` then has 65,536 bytes or more it is written to `output` and emptied. If it fails, a prefix
+/// of `out` with the lines was written.
 fn write_event<K: Sink>(
     alloc: Global,
     out: &mut Text,
@@ -64,7 +67,9 @@ fn write_event<K: Sink>(
     Ok(())
 }
 
-/// Adds the lives of these events. Memory holds the lives of one event at a time.
+/// Appends the `life` lines of the events to `out`, event after event in the order of `events`, and
+/// within an event by zone. Each time `out` then has 65,536 bytes or more it is written to `output`
+/// and emptied. If it fails, a prefix of `out` with the lines was written.
 fn write_events<K: Sink>(
     alloc: Global,
     out: &mut Text,
@@ -84,7 +89,9 @@ fn write_events<K: Sink>(
     Ok(())
 }
 
-/// Adds the lives of all events.
+/// Appends the `life` lines of all events of the reader to `out`, by event, then zone. Each time
+/// `out` then has 65,536 bytes or more it is written to `output` and emptied. If it fails, a prefix
+/// of `out` with the lines was written.
 fn write_lives<K: Sink>(
     alloc: Global,
     out: &mut Text,
@@ -102,8 +109,10 @@ fn write_lives<K: Sink>(
     write_events(alloc, out, output, events.as_slice())
 }
 
-/// Adds the lines in breach. `numbers` has the number of each product without a fault among all
-/// products of the input.
+/// Appends a `breach` line for each of `breaches`, in their order, to `out`, and writes `out` to
+/// `output` and empties it each time it has 65,536 bytes or more. `numbers` has, for each product
+/// without a fault in the order of the input, its number among all products of the input, counted
+/// from 1. If it fails, a prefix of `out` with the lines was written.
 fn write_breaches<K: Sink>(
     alloc: Global,
     out: &mut Text,
@@ -120,13 +129,14 @@ fn write_breaches<K: Sink>(
         (K.outflow output.old).faults (K.outflow output.new).faults result }
 {
     for found in breaches {
-        put_breach(alloc, out, numbers, found)?;
+        write_breach(alloc, out, numbers, found)?;
         flush_if_full(alloc, out, output)?;
     }
     Ok(())
 }
 
-/// Returns how many faults, breaches and gaps there are.
+/// Returns the sum of `faults`, which is how many products have a fault, and the numbers of
+/// breaches and of gaps.
 fn total(faults: usize, breaches: &[Found], gaps: &[GapFound]) -> usize
     requires { faults ≤ 2000000000 }
     ensures { result ≡ faults + length breaches.now + length gaps.now }
@@ -134,7 +144,10 @@ fn total(faults: usize, breaches: &[Found], gaps: &[GapFound]) -> usize
     faults + breaches.len() + gaps.len()
 }
 
-/// Adds the lives, breaches and gaps. Returns how many faults, breaches and gaps there are.
+/// Appends the `life`, `breach` and `gap` lines of the tally, in this order, to `out`, and returns
+/// how many faults, breaches and gaps the tally has in all. Each time `out` then has 65,536 bytes
+/// or more it is written to `output` and emptied; what is left at the end stays in `out`. If it
+/// fails, a prefix of `out` with the lines was written.
 fn write_findings<K: Sink>(
     alloc: Global,
     out: &mut Text,
@@ -166,7 +179,10 @@ fn write_findings<K: Sink>(
     Ok(total(tally.faults, breaches.as_slice(), gaps.as_slice()))
 }
 
-/// Adds the rows at the minute that is asked for.
+/// Appends the line `shown STAMP n` for the minute of `asked` to `out`, and after it the lines of
+/// the n rows of the reader that are live at that minute, by zone, then event. Each time `out` has
+/// 65,536 bytes or more after the line of a row, it is written to `output` and emptied. If it
+/// fails, a prefix of `out` with the lines was written.
 fn write_shown<K: Sink>(
     alloc: Global,
     out: &mut Text,
@@ -184,11 +200,13 @@ fn write_shown<K: Sink>(
         (K.outflow output.old).faults (K.outflow output.new).faults result }
 {
     let rows = reader.shown(alloc, asked.minute)?;
-    put_shown(alloc, out, asked.minute, rows.len())?;
+    write_shown_line(alloc, out, asked.minute, rows.len())?;
     write_entries(alloc, out, output, rows.as_slice())
 }
 
-/// Adds the last line and writes what is left in `out`.
+/// Appends the last line, `breaches n`, to `out`, and writes all of `out` to `output`. n is
+/// `listed`, how many faults, breaches and gaps the report lists in all. If it fails, a prefix of
+/// `out` with the line was written.
 fn write_last<K: Sink>(
     alloc: Global,
     out: &mut Text,
@@ -202,12 +220,14 @@ fn write_last<K: Sink>(
     ensures cause { IsCauseOf Stop.Write
         (K.outflow output.old).faults (K.outflow output.new).faults result }
 {
-    put_last(alloc, out, listed)?;
+    write_breach_count(alloc, out, listed)?;
     flush(alloc, out, output)
 }
 
-/// Adds the rows at the minute that is asked for and the last line, and writes what is left in
-/// `out`.
+/// Appends the line `shown STAMP n` for the minute of `asked`, the lines of the n rows that are
+/// live at that minute, and the last line to `out`, and writes all of it to `output`. `listed` is
+/// how many faults, breaches and gaps `tally` has in all. If it fails, a prefix of `out` with the
+/// lines was written.
 fn write_end<K: Sink>(
     alloc: Global,
     out: &mut Text,
@@ -228,8 +248,9 @@ fn write_end<K: Sink>(
     write_last(alloc, out, output, listed)
 }
 
-/// Writes the report from the lives on: lives, breaches, gaps, the rows at a minute and the last
-/// line. Returns how many faults, breaches and gaps it lists.
+/// Writes the part of the report that follows the `product` lines: lives, breaches, gaps, the rows
+/// that are live at the minute of `asked`, and the last line. Returns how many faults, breaches and
+/// gaps the whole report lists. `tally` has what was found in all products of the input.
 ///
 /// # Errors
 ///

@@ -13,8 +13,9 @@ use product_decoder::Feed;
 use program_ends::{Pieces, Stop};
 use std::alloc::Global;
 
-/// Reads an input of at most `limit` bytes to its end and writes the line of each product. The
-/// lines of the products that a piece finishes are written before the next read.
+/// Reads `input`, of at most `limit` bytes, to its end, adds each of its products to `tally` and
+/// writes the product's line to `output`. The lines of the products that a read finishes are
+/// written before the next read. `tally` must be a new one for the office and class of `asked`.
 ///
 /// # Errors
 ///

@@ -3,8 +3,9 @@ ghost use Rattle.std.specs.Prelude.{ℕ, List as Seq};
 ghost use Rattle.archive_report.specs.Runs.{IsFinishedWritten, IsEarly};
 ghost use Rattle.archive_report.specs.declared.words.Asked.{Asked as AskedValue};
 
-/// The lines of the products that are finished within a text are a prefix of the report of each
-/// input that starts with this text.
+/// For any office, class and minute, the lines of the products that are finished within a text are
+/// a prefix of the report of each input that begins with this text. A product is finished within a
+/// text if the heading line of the next product stands there whole.
 #[tactic(auto, using(crate::proofs::Fronts::told_early))]
 pub fn what_is_told_begins_the_report()
     ensures { (asked : AskedValue) (read told : Seq ℕ) → IsFinishedWritten asked read told

@@ -1,7 +1,7 @@
 //! Writes the report of an office's archived texts: a line for each product, the lives of its
-//! events, the lines in breach, the gaps in event numbers and the rows at a minute. For the program
-//! `warn_archive`; begin with `Archive`, which `Outside::run` of `program_outside` runs, or with its
-//! `run` for other inputs and outputs.
+//! events, the lines in breach, the gaps in event numbers and the rows at a minute. For the
+//! program `warn_archive`; begin with `Archive`, which `Outside::run` of `program_outside` runs,
+//! or with its `run` for other inputs and outputs.
 #![tactic(auto)]
 
 mod archive;

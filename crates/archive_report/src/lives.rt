@@ -5,8 +5,8 @@ ghost use Rattle.hazard_types.specs.Names.{event_text};
 ghost use Rattle.archive_report.specs.Report.{life_line};
 ghost use Rattle.archive_report.specs.Texts.{steps_text};
 
-use crate::texts::put_steps;
-use hazard_types::{Action, Event, List, Minute, Oom, Text, put_event, zone_text};
+use crate::texts::write_steps;
+use hazard_types::{Action, Event, List, Minute, Oom, Text, write_event_text, zone_text};
 use product_decoder::Track;
 use std::alloc::Global;
 use std::marker::Model;
@@ -40,7 +40,8 @@ impl EventText {
         }
     }
 
-    /// Sets the event and its text, unless the event is the same.
+    /// Makes this the text of `event`, as `WS.W.0001.2018`. If it is the text of this event
+    /// already, or if memory runs out, nothing changes.
     fn set(&mut self, alloc: Global, event: &Event) -> Result<(), Oom>
         ensures { OnOk result (self.new ≡ event_text event.now) }
     {
@@ -50,7 +51,7 @@ impl EventText {
             }
         }
         let mut text = List::new(alloc);
-        put_event(alloc, &mut text, event)?;
+        write_event_text(alloc, &mut text, event)?;
         *self = EventText {
             event: Some(*event),
             text,
@@ -58,6 +59,7 @@ impl EventText {
         Ok(())
     }
 
+    /// Returns the bytes of the text, which are none if it is of no event.
     fn as_slice(&self) -> &[u8]
         ensures { result.now ≡ self.now }
     {
@@ -94,7 +96,9 @@ impl StepsText {
         }
     }
 
-    /// Sets the steps and their text, unless the steps are the same.
+    /// Makes this the text of `steps`, in their order, each as a blank, the action, `@` and the
+    /// minute in UTC: ` NEW@180103T1530Z`. If it is the text of these steps already, or if memory
+    /// runs out, nothing changes.
     fn set(&mut self, alloc: Global, steps: &List<(Action, Minute)>) -> Result<(), Oom>
         ensures { OnOk result (self.new ≡ steps_text steps.now) }
     {
@@ -102,12 +106,13 @@ impl StepsText {
             return Ok(());
         }
         let mut text = List::new(alloc);
-        put_steps(&mut text, steps.as_slice())?;
+        write_steps(&mut text, steps.as_slice())?;
         let steps = List::from_slice(alloc, steps.as_slice())?;
         *self = StepsText { steps, text };
         Ok(())
     }
 
+    /// Returns the bytes of the text, which are none if it is of no steps.
     fn as_slice(&self) -> &[u8]
         ensures { result.now ≡ self.now }
     {
@@ -123,7 +128,8 @@ pub struct LastLife {
 }
 
 impl LastLife {
-    /// Returns empty texts, of no life.
+    /// Returns the value for the time before the first life: both of its texts, of the event and of
+    /// the steps, are empty.
     pub fn none(alloc: Global) -> Self {
         LastLife {
             event: EventText::new(alloc),
@@ -131,7 +137,9 @@ impl LastLife {
         }
     }
 
-    /// Adds the line `life EVENT ZONE ACTION@STAMP ..` and remembers its texts.
+    /// Appends the line `life EVENT ZONE ACTION@STAMP ..` of a life to `out`, with the life's steps
+    /// in their order and LF at the end. Keeps the texts of the event and of the steps, so that a
+    /// next life with the same ones need not build them again.
     ///
     /// # Errors
     ///

@@ -12,7 +12,7 @@ use std::alloc::Global;
 /// The size in bytes from which the buffer is written.
 const ENOUGH: usize = 65_536;
 
-/// Writes the buffer and empties it.
+/// Writes the buffer `out` to `output` and empties it.
 ///
 /// # Errors
 ///
@@ -34,7 +34,8 @@ pub fn flush<K: Sink>(alloc: Global, out: &mut Text, output: &mut K) -> Result<(
     }
 }
 
-/// Writes the buffer and empties it once it has 65,536 bytes.
+/// Writes the buffer `out` to `output` and empties it if it has 65,536 bytes or more, and else does
+/// nothing.
 ///
 /// # Errors
 ///

@@ -6,7 +6,7 @@ ghost use Rattle.program_ends.specs.Steps.{IsCauseOf};
 ghost use Rattle.archive_report.specs.Pieces.{IsTally, WritesNext, WritesEach, WritesPiece, HaltsPiece};
 ghost use Rattle.archive_report.specs.Readings.{said_of};
 
-use crate::lines::put_product;
+use crate::lines::write_product;
 use crate::tally::{Reading, Tally};
 use crate::words::Asked;
 use byte_streams::{Sink, write_whole};
@@ -17,7 +17,8 @@ use product_frame::read_frame;
 use program_ends::Stop;
 use std::alloc::Global;
 
-/// Returns what was read of a product: its frame, or its first fault.
+/// Returns what is read of `bytes`, the text of one product from its heading line on: in the outer
+/// `Ok`, either `Ok` with the product's frame, or `Err` with its first fault.
 ///
 /// # Errors
 ///
@@ -32,8 +33,9 @@ pub fn read_product(alloc: Global, bytes: &[u8]) -> Result<Reading, Oom>
     }
 }
 
-/// Takes the next finished product of the feed into the tally and adds its line to `out`. Returns
-/// whether there was one.
+/// Takes the next finished product out of `feed`, adds it to `tally` and appends its line to `out`.
+/// Returns `false` if the feed has none, and `tally` and `out` are then as before. A product is
+/// finished once the heading line of the next one is whole, or the end of the feed is marked.
 fn write_next(
     alloc: Global,
     asked: &Asked,
@@ -52,7 +54,7 @@ fn write_next(
     match feed.take(alloc)? {
         Some(text) => {
             let reading = read_product(alloc, text.as_slice())?;
-            put_product(alloc, out, asked, tally.count + 1, &reading)?;
+            write_product(alloc, out, asked, tally.count + 1, &reading)?;
             tally.take(alloc, asked, &reading)?;
             Ok(true)
         }
@@ -60,7 +62,9 @@ fn write_next(
     }
 }
 
-/// Takes each finished product of the feed into the tally and adds its line to `out`.
+/// Takes each finished product out of `feed`, in the order of the input, adds it to `tally` and
+/// appends its line to `out`. A product is finished once the heading line of the next one is whole,
+/// or the end of the feed is marked.
 fn write_each(
     alloc: Global,
     asked: &Asked,
@@ -80,7 +84,9 @@ fn write_each(
     Ok(())
 }
 
-/// Takes each finished product of the feed into the tally and writes the lines of them all.
+/// Takes each finished product out of `feed`, in the order of the input, adds it to `tally`, and
+/// then writes the lines of them all to `output`. A product is finished once the heading line of
+/// the next one is whole, or the end of the feed is marked.
 ///
 /// # Errors
 ///

@@ -13,8 +13,9 @@ use byte_streams::{Sink, Source};
 use program_ends::Stop;
 use std::alloc::Global;
 
-/// Reads an input of at most `limit` bytes to its end and writes its report. Returns how many
-/// faults, breaches and gaps it lists.
+/// Reads `input`, of at most `limit` bytes, to its end and writes its report, for the office, class
+/// and minute of `asked`, to `output`. Returns how many faults, breaches and gaps the report lists
+/// in all.
 ///
 /// # Errors
 ///

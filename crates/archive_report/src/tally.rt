@@ -26,7 +26,7 @@ pub struct Tally {
 }
 
 impl Tally {
-    /// Returns the tally of no products.
+    /// Returns the tally of no products, for the lines of the office and class of `asked`.
     pub fn new(alloc: Global, asked: &Asked) -> Self
         ensures tally { IsTally asked.now result }
         ensures products { result.reader.products ≡ [] }
@@ -42,7 +42,9 @@ impl Tally {
         }
     }
 
-    /// Adds the next product.
+    /// Adds the next product of the input: its frame, or, if `reading` is a fault, only to the
+    /// counts of products and faults. `asked` must have the office and class that the tally was
+    /// made for. The tally must have fewer than 2,000,000,000 products.
     ///
     /// # Errors
     ///

@@ -2,7 +2,7 @@
 ghost use Rattle.std.specs.Prelude.{◌≡◌};
 ghost use Rattle.archive_report.specs.Words.{asked_of};
 
-use hazard_types::{Class, List, Minute, Text, classes, find, read_stamp};
+use hazard_types::{Class, List, Minute, Text, classes, find, parse_stamp};
 use program_ends::office_of;
 
 /// What a report is asked for: the office and class whose lines count, and the minute whose rows
@@ -14,7 +14,9 @@ pub struct Asked {
     pub minute: Minute,
 }
 
-/// Parses the words `OFFICE CLASS STAMP`; `None` if they are not exactly these three.
+/// Returns the office, class and minute that the words `OFFICE CLASS STAMP` name, as `KLWX O
+/// 180103T1530Z`, or `None` if they are not exactly three words of this form. OFFICE is four
+/// characters of A-Z and 0-9, CLASS is O, T, E or X, and STAMP is a minute of 2000 to 2099 in UTC.
 ///
 /// Source: docs/DECISIONS.md, "The archive's report".
 #[tactic(auto, unfolding(crate::specs::Words::asked_of))]
@@ -26,7 +28,7 @@ pub fn asked_of(words: &List<Text>) -> Option<Asked>
     };
     let office = office_of(office.as_slice())?;
     let class = find(&classes(), class.as_slice())?;
-    let minute = read_stamp(stamp.as_slice())?;
+    let minute = parse_stamp(stamp.as_slice())?;
     Some(Asked {
         office,
         class,

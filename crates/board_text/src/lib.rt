@@ -1,13 +1,13 @@
 //! The lines of a board: zone, event, period and H-VTEC values of each row that is shown.
 //!
-//! For crates that show a board. One begins with `put_board`, or with `put_row` for one row.
+//! For crates that show a board. One begins with `write_board`, or with `write_row` for one row.
 #![tactic(auto)]
 
 ghost use Rattle.std.specs.Prelude.{◌≡◌, ◌≤◌, ◌++◌, IfOk, OnOk, OnErr, None};
 ghost use Rattle.board_text.specs.Rows.{period_text, flood_part, row_line, board_text, HasFirstRows};
 
 use hazard_types::{
-    Flood, Oom, Period, Row, Text, end_text, event_text, put_event, stamp, zone_text,
+    Flood, Oom, Period, Row, Text, end_text, event_text, stamp, write_event_text, zone_text,
 };
 use hvtec_string::hvtec_columns;
 use std::alloc::Global;
@@ -15,7 +15,9 @@ use std::alloc::Global;
 /// The capacity with which `row_text` starts a line, in bytes.
 const LINE: usize = 64;
 
-fn put_period(out: &mut Text, period: &Period) -> Result<(), Oom>
+/// Appends a period, begin and end in UTC, as `180103T1530Z-180104T0000Z`. An end until further
+/// notice is written as zeros, `000000T0000Z`.
+fn write_period(out: &mut Text, period: &Period) -> Result<(), Oom>
     ensures { OnOk result (out.new ≡ out.old ++ period_text period.now) }
 {
     out.extend(&stamp(period.begin))?;
@@ -23,8 +25,8 @@ fn put_period(out: &mut Text, period: &Period) -> Result<(), Oom>
     out.extend(&end_text(&period.end))
 }
 
-/// Appends a blank and the H-VTEC string, if there are H-VTEC values.
-fn put_flood(out: &mut Text, flood: &Option<Flood>) -> Result<(), Oom>
+/// Appends a blank and the H-VTEC string of `flood`, or nothing if it is `None`.
+fn write_flood(out: &mut Text, flood: &Option<Flood>) -> Result<(), Oom>
     ensures { OnOk result (out.new ≡ out.old ++ flood_part flood.now) }
 {
     match flood {
@@ -36,22 +38,26 @@ fn put_flood(out: &mut Text, flood: &Option<Flood>) -> Result<(), Oom>
     }
 }
 
-/// Returns the line of a row, with its LF.
+/// Returns the line of a row, which ends with LF: zone, event and period, as `MDZ003 WS.W.0001.2018
+/// 180103T1530Z-180104T0000Z`, with a blank and the H-VTEC string after them if the row has H-VTEC
+/// values. An end until further notice is written as zeros.
 fn row_text(alloc: Global, row: &Row) -> Result<Text, Oom>
     ensures { IfOk result (λ text. text ≡ row_line row.now) }
 {
     let mut text = Text::from_vec(Vec::with_capacity(alloc, LINE)?);
     text.extend(&zone_text(&row.zone))?;
     text.push(b' ')?;
-    put_event(alloc, &mut text, &row.event)?;
+    write_event_text(alloc, &mut text, &row.event)?;
     text.push(b' ')?;
-    put_period(&mut text, &row.period)?;
-    put_flood(&mut text, &row.flood)?;
+    write_period(&mut text, &row.period)?;
+    write_flood(&mut text, &row.flood)?;
     text.push(b'\n')?;
     Ok(text)
 }
 
-/// Returns the line of a row without H-VTEC values, each part of which has fixed columns.
+/// Returns the 48 bytes, LF included, of the line of a row: zone, event and period, as `MDZ003
+/// WS.W.0001.2018 180103T1530Z-180104T0000Z`. The row must have no H-VTEC values, and its event's
+/// number and year must be at most 9,999.
 #[tactic(auto, using(hazard_types::proofs::NamesBack::wide_four))]
 fn row_columns(row: &Row) -> [u8; 48]
     requires number { row.now.event.etn ≤ 9999 }
@@ -67,17 +73,17 @@ fn row_columns(row: &Row) -> [u8; 48]
     line
 }
 
-/// Appends the line of a row, which ends with LF:
-/// `MDZ003 WS.W.0001.2018 180103T1530Z-180104T0000Z`, with a blank and the H-VTEC string after it
-/// if the row has H-VTEC values. An end until further notice is written as zeros. When it fails,
-/// `out` is as before.
+/// Appends the line of a row, which ends with LF: zone, event and period in UTC, as `MDZ003
+/// WS.W.0001.2018 180103T1530Z-180104T0000Z`, with a blank and the H-VTEC string after them if the
+/// row has H-VTEC values. An end until further notice is written as zeros. When it fails, `out` is
+/// as before.
 ///
 /// # Errors
 ///
 /// Out of memory.
 ///
 /// Source: docs/CLIENTS.md, "A line of the board".
-pub fn put_row(alloc: Global, out: &mut Text, row: &Row) -> Result<(), Oom>
+pub fn write_row(alloc: Global, out: &mut Text, row: &Row) -> Result<(), Oom>
     ensures ok { OnOk result (out.new ≡ out.old ++ row_line row.now) }
     ensures err { OnErr result (out.new ≡ out.old) }
 {
@@ -88,18 +94,18 @@ pub fn put_row(alloc: Global, out: &mut Text, row: &Row) -> Result<(), Oom>
     out.extend(line.as_slice())
 }
 
-/// Appends the lines of rows, in their order. When it fails, `out` has the lines of the first rows,
-/// each whole, or none.
+/// Appends a line for each of the rows, in their order, with zone, event, period and H-VTEC values.
+/// When it fails, `out` has, after what it had, the lines of the first rows, each whole, or none.
 ///
 /// # Errors
 ///
 /// Out of memory.
-pub fn put_board(alloc: Global, out: &mut Text, rows: &[Row]) -> Result<(), Oom>
+pub fn write_board(alloc: Global, out: &mut Text, rows: &[Row]) -> Result<(), Oom>
     ensures ok { OnOk result (out.new ≡ out.old ++ board_text rows.now) }
     ensures err { OnErr result (HasFirstRows out.old out.new rows.now) }
 {
     for row in rows {
-        put_row(alloc, out, row)?;
+        write_row(alloc, out, row)?;
     }
     Ok(())
 }

@@ -15,7 +15,8 @@ pub struct FailedWrites {
     pub lacked: bool,
 }
 
-/// Counts a call. Calls are counted from 1.
+/// Counts one more call in `calls`, and fails if its number, 1 for the first, is in `failing`.
+/// `faults` is the count of failed calls.
 ///
 /// # Errors
 ///
@@ -35,8 +36,8 @@ pub fn next_call(failing: &List<u64>, calls: &mut u64, faults: &mut u64) -> Resu
     Ok(())
 }
 
-/// Copies bytes of `bytes` from index `at` on to the start of `into`, as many as are left and fit
-/// both `most` and `into`, and returns how many.
+/// Copies bytes of `bytes` from index `at` on to the start of `into`, and returns how many: as many
+/// as are left, but at most `most` and at most the length of `into`.
 pub fn hand_out(bytes: &[u8], at: usize, most: usize, into: &mut [u8]) -> usize
     requires within { at ≤ length bytes.now }
     requires some { 1 ≤ most }
@@ -51,7 +52,8 @@ pub fn hand_out(bytes: &[u8], at: usize, most: usize, into: &mut [u8]) -> usize
     count
 }
 
-/// Appends `bytes` to `taken`.
+/// Appends `bytes` to `taken`, all that was written to a sink in memory so far. `faults` counts the
+/// failed writes, and keeps whether memory ran out for one.
 ///
 /// # Errors
 ///

@@ -31,6 +31,8 @@ impl<R: Read> Source for Counted<R> {
 
     ghost reads = { λ _ _. Unit {0} };
 
+    /// Reads once from the inner reader. Every error of it, an interrupted read too, is a failed
+    /// read.
     fn read(&mut self, into: &mut [u8]) -> Result<usize, Failed> {
         match self.inner.read(into) {
             Ok(count) => Ok(count),
@@ -51,6 +53,8 @@ impl<W: Write> Sink for Counted<W> {
 
     ghost more_writes = { λ _ _ _ _ _. tt };
 
+    /// Writes once to the inner writer. Every error of it, and a write that takes no byte of a
+    /// non-empty slice, is a failed write.
     fn write(&mut self, bytes: &[u8]) -> Result<usize, Failed> {
         match self.inner.write(bytes) {
             Ok(count) if 0 < count || bytes.is_empty() => Ok(count),

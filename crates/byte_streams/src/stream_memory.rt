@@ -61,6 +61,9 @@ impl Source for MemSource {
 
     ghost reads = { λ _ _. Unit {0} };
 
+    /// Copies the next bytes to the start of `into`, as many as are left and fit both the piece
+    /// size and `into`, and returns how many. The call fails exactly if its number, counted from 1,
+    /// is one of those given to `new`.
     fn read(&mut self, into: &mut [u8]) -> Result<usize, Failed>
         ensures read { Reads (inflow_of self.old) (inflow_of self.new) result into.new }
         ensures counted { OnErr result (self.new.faults ≡ next_count self.old.faults) }
@@ -120,7 +123,7 @@ impl MemSink {
         })
     }
 
-    /// Returns the written bytes.
+    /// Returns all bytes written so far, in order.
     pub fn taken(&self) -> &Text
         ensures { result.now ≡ self.now.taken }
     {
@@ -137,7 +140,9 @@ impl Sink for MemSink {
 
     ghost more_writes = { λ _ _ _ _ _. tt };
 
-    /// Writes all of `bytes`. If memory runs out the call fails, and is counted.
+    /// Appends all of `bytes` to the written bytes and returns how many they are. The call fails,
+    /// is counted and appends nothing if its number, counted from 1, is one of those given to
+    /// `new`, or if memory runs out.
     fn write(&mut self, bytes: &[u8]) -> Result<usize, Failed>
         ensures written { Writes (outflow_of self.old) (outflow_of self.new) result bytes.now }
         ensures counted { OnErr result (self.new.faults ≡ next_count self.old.faults) }

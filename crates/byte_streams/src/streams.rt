@@ -46,7 +46,7 @@ pub trait Sink {
     ghost more_writes: { (old mid new : Self) → writes old mid → writes mid new → writes old new };
 }
 
-/// Writes all of `bytes`.
+/// Writes all of `bytes` to `sink`, in as many writes as it takes.
 ///
 /// # Errors
 ///

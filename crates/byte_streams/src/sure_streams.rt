@@ -17,7 +17,7 @@ pub struct SureSource {
 }
 
 impl SureSource {
-    /// Returns a source of `bytes`.
+    /// Returns a source of a copy of `bytes`, none of which has been read.
     ///
     /// # Errors
     ///
@@ -38,6 +38,8 @@ impl Source for SureSource {
 
     ghost reads = { λ _ _. Unit {0} };
 
+    /// Copies as many of the remaining bytes as fit to the start of `into`, and returns how many.
+    /// Never fails.
     fn read(&mut self, into: &mut [u8]) -> Result<usize, Failed> {
         let count = hand_out(self.bytes.as_slice(), self.at, usize::MAX, into);
         self.at += count;
@@ -58,6 +60,7 @@ impl Sink for SureSink {
 
     ghost more_writes = { λ _ _ _ _ _. tt };
 
+    /// Returns the length of `bytes`, which are dropped. Never fails.
     fn write(&mut self, bytes: &[u8]) -> Result<usize, Failed> {
         Ok(bytes.len())
     }

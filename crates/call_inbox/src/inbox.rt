@@ -57,14 +57,14 @@ impl Inbox {
         })
     }
 
-    /// Returns the bytes.
+    /// Returns the bytes that were read and not yet skipped.
     pub fn as_slice(&self) -> &[u8]
         ensures { result.now ≡ self.now }
     {
         &self.buffer[self.start..self.end]
     }
 
-    /// Removes the first `count` bytes.
+    /// Removes the first `count` bytes. There must be so many.
     pub fn skip(&mut self, count: usize)
         requires { count ≤ length self.old }
         ensures { self.new ≡ drop count self.old }
@@ -80,8 +80,8 @@ impl Inbox {
         self.end = 0;
     }
 
-    /// Reads from `link` after the bytes that are there, and returns how many: 0 only at the end of
-    /// the input.
+    /// Reads from `link` after the bytes that are there, and returns how many bytes it read: 0 only
+    /// at the end of the input. The inbox must not be full, so it has fewer than 73,728 bytes.
     ///
     /// # Errors
     ///
@@ -97,7 +97,7 @@ impl Inbox {
             ((L.state link.new).input.faults ≡ (L.state link.old).input.faults) }
         ensures unread { OnErr result (self.new ≡ self.old) }
     {
-        let (start, end) = places_with_room(self.buffer.as_mut_slice(), self.start, self.end);
+        let (start, end) = make_room_behind(self.buffer.as_mut_slice(), self.start, self.end);
         self.start = start;
         self.end = end;
         let count = read_behind(link, self.buffer.as_mut_slice(), end)?;
@@ -106,9 +106,9 @@ impl Inbox {
     }
 }
 
-// Moves `start..end` of the buffer to its start if they are at its end, and returns where they are
-// then.
-fn places_with_room(buffer: &mut [u8], start: usize, end: usize) -> (usize, usize)
+/// Moves the bytes `start..end` to the start of the buffer if there is no room after them, and
+/// returns where they start and end then. They must be fewer than the buffer's bytes.
+fn make_room_behind(buffer: &mut [u8], start: usize, end: usize) -> (usize, usize)
     requires order { start ≤ end }
     requires within { end ≤ length buffer.old }
     requires fewer { end - start < length buffer.old }
@@ -125,7 +125,9 @@ fn places_with_room(buffer: &mut [u8], start: usize, end: usize) -> (usize, usiz
     (0, end - start)
 }
 
-// Reads from `link` into the buffer from index `end` on, and returns how many bytes.
+/// Reads from the link into the buffer from index `end` on, and returns how many bytes it read: 0
+/// only at the end of the input. `end` must be below the buffer's length; `Failed` if the read
+/// failed.
 fn read_behind<L: Link>(link: &mut L, buffer: &mut [u8], end: usize) -> Result<usize, Failed>
     requires { end < length buffer.old }
     ensures len { length buffer.new ≡ length buffer.old }

@@ -33,7 +33,8 @@ pub enum NextCall {
     OutOfMemory,
 }
 
-// The call at the start of the bytes, or `None` if it is not whole.
+/// Returns the call at the start of `bytes`, its refusal, or `OutOfMemory` if memory ran out for
+/// reading it. It is `None` if the call is unfinished and not yet refused.
 fn next_in(alloc: Global, routes: &Routes, bytes: &[u8]) -> Option<NextCall>
     ensures some { IfSome result (Tells bytes.now ⊥ ⊥) }
     ensures none { IfNone result (IsUnfinished bytes.now) }
@@ -46,7 +47,9 @@ fn next_in(alloc: Global, routes: &Routes, bytes: &[u8]) -> Option<NextCall>
     }
 }
 
-// The same at the input's end.
+/// Returns what comes next on a link whose input ends after `bytes`: the call at their start, its
+/// refusal, or `OutOfMemory` if memory ran out for reading it. If there are no bytes it is
+/// `Closed`, and `Cut` if they end within a call that is not yet refused.
 fn next_at_end(alloc: Global, routes: &Routes, bytes: &[u8]) -> NextCall
     ensures { Tells bytes.now ⊤ ⊥ result }
 {
@@ -57,7 +60,10 @@ fn next_at_end(alloc: Global, routes: &Routes, bytes: &[u8]) -> NextCall
     }
 }
 
-// The same if `watch` says that the bytes are to be judged; `None` if more must be read.
+/// Returns the call at the start of `bytes`, its refusal, or `OutOfMemory` if memory ran out for
+/// reading it. It is `None` if more bytes must be read first: the bytes are not to be judged yet by
+/// `watch`, or the call is unfinished. `watch` must have seen a prefix of `bytes`; for `None` it
+/// has then seen all of them.
 fn next_when_due(
     alloc: Global,
     routes: &Routes,
@@ -88,8 +94,11 @@ fn next_when_due(
     }
 }
 
-/// Returns the next call of a link, after the bytes that were skipped. It reads until the call at
-/// the start of the inbox is whole or refused, so not at all if it is already, and writes nothing.
+/// Returns the next whole call on `link`, whose bytes are then at the start of `inbox`, or the
+/// refusal of it; `Closed` if the input ended between calls, `Cut` if it ended within one,
+/// `LinkFault` if a read failed, or `OutOfMemory`. It reads until the bytes in `inbox` that were
+/// not skipped start with a call that is whole or refused, so not at all if they do already. It
+/// writes nothing.
 pub fn next_call<L: Link>(
     alloc: Global,
     routes: &Routes,

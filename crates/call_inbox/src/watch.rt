@@ -6,7 +6,7 @@ ghost use Rattle.warn_http.specs.Heads.{has_line_feed};
 ghost use Rattle.call_inbox.specs.Watching.{Waits};
 
 use crate::inbox::{MOST_CALL, MOST_HEAD};
-use warn_http::{heads_end_with_a_line_feed, still_wants};
+use warn_http::{heads_end_with_a_line_feed, least_missing_bytes};
 
 /// When the bytes are to be judged again.
 #[derive(Clone, Copy, Debug)]
@@ -21,7 +21,8 @@ pub struct Watch {
 }
 
 impl Watch {
-    /// Returns the watch before any byte of a call: they are judged at the first one.
+    /// Returns the watch, which says when the bytes of a call are to be judged, for a call of which
+    /// no byte has come: it is due at the first byte.
     pub fn new() -> Self
         ensures seen { result.seen ≡ 0 }
         ensures waits { Waits result.from result.by_line [] }
@@ -34,7 +35,8 @@ impl Watch {
         }
     }
 
-    /// Until `missing` more bytes are there.
+    /// Returns a watch over `seen` bytes that is due once `missing` more are there, or 73,728 bytes
+    /// in all.
     fn for_body(seen: usize, missing: usize) -> Self
         ensures seen { result.seen ≡ seen }
         ensures by_line { result.by_line ≡ false }
@@ -47,7 +49,8 @@ impl Watch {
         }
     }
 
-    /// Until the next line end, or until there are twice as many bytes.
+    /// Returns a watch over `seen` bytes that is due at the next line end, or once there are twice
+    /// as many bytes or 8,192.
     fn for_line(seen: usize) -> Self
         ensures seen { result.seen ≡ seen }
         ensures by_line { result.by_line ≡ true }
@@ -59,21 +62,23 @@ impl Watch {
         }
     }
 
-    /// Returns the watch after an unfinished call was judged: until its body may be complete, or,
-    /// while its head is not whole, until the next line end, twice as many bytes, or the most bytes
-    /// of a head.
+    /// Returns the watch after the bytes of an unfinished call were judged. It is due once the body
+    /// may be complete, or, while the head is not whole, at the next line end or once there are
+    /// twice as many bytes or 8,192.
     pub fn after_check(bytes: &[u8]) -> Self
         requires { IsUnfinished bytes.now }
         ensures seen { result.seen ≡ length bytes.now }
         ensures waits { Waits result.from result.by_line bytes.now }
     {
-        match still_wants(bytes) {
+        match least_missing_bytes(bytes) {
             Some(missing) => Watch::for_body(bytes.len(), missing),
             None => Watch::for_line(bytes.len()),
         }
     }
 
-    /// Whether the bytes are to be judged now.
+    /// Whether the bytes of the call are to be judged now: there are at least `from` of them, or
+    /// `by_line` is set and an LF is among those after the first `seen`. `bytes` must start with
+    /// the `seen` bytes that the watch has looked at before.
     pub fn is_due(&self, bytes: &[u8]) -> bool
         requires { self.now.seen ≤ length bytes.now }
         ensures room { result ≡ false → length bytes.now < 73728 }

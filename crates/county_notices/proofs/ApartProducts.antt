@@ -20,9 +20,9 @@ use Rattle.event_life.specs.declared.life.Breach.TheVariants.{Twice}
 use Rattle.event_life.specs.declared.life.Life.{Life}
 use Rattle.event_life.specs.Higher.{family_of, is_above, may_yield, outranks}
 use Rattle.event_life.specs.Lives.{judged_product}
-use Rattle.event_life.specs.Openings.{add_event, event_placed, is_numbered, numbers_of, opened_by, opened_from}
+use Rattle.event_life.specs.Openings.{add_event, event_placed, is_numbered, numbers_of, events_opened_by, opened_from}
 use Rattle.event_life.specs.Periods.{is_live, overlaps}
-use Rattle.event_life.specs.Products.{Product, around_but_higher, breach_in, by_key, end_upgraded, event_of, event_of_issue, going_in, has_higher, is_new, is_overlapped, is_routine, is_second, is_upgrade, judged, judged_from, lawful_of, life_at, line_of, lines_of, put, put_all, rows_after_all_but_upgrades, row_after, row_at, row_of, rows_after, rows_for_higher, rows_with, concerns}
+use Rattle.event_life.specs.Products.{Product, around_but_higher, breach_in, by_key, end_upgraded, event_of, event_of_issue, latest_open_event, has_higher, is_new, is_overlapped, is_routine, is_second, is_upgrade, judged, judged_from, lawful_of, life_at, line_of, lines_of, put, put_all, rows_after_all_but_upgrades, row_after, row_at, row_of, rows_after, rows_for_higher, rows_with, concerns}
 use Rattle.event_life.specs.Table.{breach_of_line, life_after_lawful_line}
 use Rattle.event_life.proofs.Puts.{put-sorted, rows_after-sorted}
 use Rattle.county_notices.specs.Apart.{AreMerged, IsOfDesk, IsOfOthers, desks_events, is_desks}
@@ -162,9 +162,9 @@ opened_all_by : (P : Event → Type 0) (e : Event) (b : Bool) (events : List Eve
 opened_all_by P e true events own more = add_all P e events own more
 opened_all_by P e false events own more = more
 
-opened_all : (P : Event → Type 0) (lines : List Line) → AllByRecursion (λ (line : Line). P line.event) lines → AllByRecursion P (opened_by lines)
+opened_all : (P : Event → Type 0) (lines : List Line) → AllByRecursion (λ (line : Line). P line.event) lines → AllByRecursion P (events_opened_by lines)
 opened_all P [] all = tt
-opened_all P (line ∷ lines) all = opened_all_by P line.event (is_new line.action) (opened_by lines) all.0 (opened_all P lines all.1)
+opened_all P (line ∷ lines) all = opened_all_by P line.event (is_new line.action) (events_opened_by lines) all.0 (opened_all P lines all.1)
 
 all_desks : (events : List Event) → AllByRecursion (λ e. is_desks_event e ≡ true) events → desks_events events ≡ events
 all_desks [] all = refl
@@ -184,13 +184,13 @@ events_both (e ∷ xs) ys = events_both_by e (is_desks_event e) xs ys (events_bo
 
 -- ---- lines of texts
 
-going_hazard : (rows : List Row) (t : ℕ) (vtec : Vtec) (o : Option Event) → going_in rows vtec.hazard vtec.etn t ≡ o → (unwrap_or o (event_of_issue t vtec)).hazard ≡ vtec.hazard
+going_hazard : (rows : List Row) (t : ℕ) (vtec : Vtec) (o : Option Event) → latest_open_event rows vtec.hazard vtec.etn t ≡ o → (unwrap_or o (event_of_issue t vtec)).hazard ≡ vtec.hazard
 going_hazard rows t vtec None is = refl
 going_hazard rows t vtec (Some e) is = (going_is rows vtec.hazard vtec.etn t e is).hazard
 
-event_hazard_by : (rows : List Row) (t : ℕ) (vtec : Vtec) (b : Bool) → (cond b (event_of_issue t vtec) (unwrap_or (going_in rows vtec.hazard vtec.etn t) (event_of_issue t vtec))).hazard ≡ vtec.hazard
+event_hazard_by : (rows : List Row) (t : ℕ) (vtec : Vtec) (b : Bool) → (cond b (event_of_issue t vtec) (unwrap_or (latest_open_event rows vtec.hazard vtec.etn t) (event_of_issue t vtec))).hazard ≡ vtec.hazard
 event_hazard_by rows t vtec true = refl
-event_hazard_by rows t vtec false = going_hazard rows t vtec (going_in rows vtec.hazard vtec.etn t) refl
+event_hazard_by rows t vtec false = going_hazard rows t vtec (latest_open_event rows vtec.hazard vtec.etn t) refl
 
 event_hazard : (rows : List Row) (t : ℕ) (vtec : Vtec) → (event_of rows t vtec).hazard ≡ vtec.hazard
 event_hazard rows t vtec = event_hazard_by rows t vtec (is_new vtec.action)
@@ -230,11 +230,11 @@ module _ (rows : List Row) (p : Product) (up : IsStrictlySortedBy by_key rows) w
       put_all_kept rows p.issue (lawful_of (judged_product rows p)) rows (all_lawful IsOwn rows p.issue own_lines [] own_lines all) up
       ∙ ap (λ (js : List (Line × Option Breach)). put_all (keep rows) p.issue (lawful_of js) (keep rows)) (sym (desk_judged own))
 
-  desk_opened : IsOfDesk p → desks_events (opened_by (lawful_of (judged_product rows p))) ≡ opened_by (lawful_of (judged_product (keep rows) p))
+  desk_opened : IsOfDesk p → desks_events (events_opened_by (lawful_of (judged_product rows p))) ≡ events_opened_by (lawful_of (judged_product (keep rows) p))
   desk_opened own =
       let all = lines_all true rows p.issue p.said own in
       all_desks _ (opened_all (λ e. is_desks_event e ≡ true) (lawful_of (judged_product rows p)) (all_lawful IsOwn rows p.issue own_lines [] own_lines all))
-      ∙ ap (λ (js : List (Line × Option Breach)). opened_by (lawful_of js)) (sym (desk_judged own))
+      ∙ ap (λ (js : List (Line × Option Breach)). events_opened_by (lawful_of js)) (sym (desk_judged own))
 
   abbrev IsOther : Line → Type 0
   IsOther line = is_desks line.event.hazard ≡ false
@@ -247,7 +247,7 @@ module _ (rows : List Row) (p : Product) (up : IsStrictlySortedBy by_key rows) w
   unfolding rows_after
   other_rows own = put_all_other (lawful_of (judged_product rows p)) rows (all_lawful IsOther rows p.issue own_lines [] own_lines (lines_all false rows p.issue p.said own))
 
-  other_opened : IsOfOthers p → desks_events (opened_by (lawful_of (judged_product rows p))) ≡ []
+  other_opened : IsOfOthers p → desks_events (events_opened_by (lawful_of (judged_product rows p))) ≡ []
   other_opened own = none_desks _ (opened_all (λ e. is_desks_event e ≡ false) (lawful_of (judged_product rows p)) (all_lawful IsOther rows p.issue own_lines [] own_lines (lines_all false rows p.issue p.said own)))
 
 from_merged : (rows : List Row) (desk others all : List Product) → IsStrictlySortedBy by_key rows → AllByRecursion IsOfDesk desk → AllByRecursion IsOfOthers others → AreMerged desk others all →
@@ -256,14 +256,14 @@ from_merged rows desk others [] up own other m = ap (opened_from (keep rows)) (s
 from_merged rows desk others (p ∷ all) up own other (inl m) =
     let mine : AllByRecursion IsOfDesk (p ∷ m.0) = subst (AllByRecursion IsOfDesk) m.1 own in
     let rest = from_merged (rows_with rows p) m.0 others all (rows_after-sorted rows p.issue (lines_of rows p.issue p.said) up) mine.1 other m.2 in
-    events_both (opened_by (lawful_of (judged_product rows p))) (opened_from (rows_with rows p) all)
+    events_both (events_opened_by (lawful_of (judged_product rows p))) (opened_from (rows_with rows p) all)
     ∙ ap (λ (es : List Event). es ++ desks_events (opened_from (rows_with rows p) all)) (desk_opened rows p up mine.0)
-    ∙ ap (λ (es : List Event). opened_by (lawful_of (judged_product (keep rows) p)) ++ es) (rest ∙ ap (λ (rs : List Row). opened_from rs m.0) (desk_rows rows p up mine.0))
+    ∙ ap (λ (es : List Event). events_opened_by (lawful_of (judged_product (keep rows) p)) ++ es) (rest ∙ ap (λ (rs : List Row). opened_from rs m.0) (desk_rows rows p up mine.0))
     ∙ ap (opened_from (keep rows)) (sym m.1)
 from_merged rows desk others (p ∷ all) up own other (inr m) =
     let mine : AllByRecursion IsOfOthers (p ∷ m.0) = subst (AllByRecursion IsOfOthers) m.1 other in
     let rest = from_merged (rows_with rows p) desk m.0 all (rows_after-sorted rows p.issue (lines_of rows p.issue p.said) up) own mine.1 m.2 in
-    events_both (opened_by (lawful_of (judged_product rows p))) (opened_from (rows_with rows p) all)
+    events_both (events_opened_by (lawful_of (judged_product rows p))) (opened_from (rows_with rows p) all)
     ∙ ap (λ (es : List Event). es ++ desks_events (opened_from (rows_with rows p) all)) (other_opened rows p up mine.0)
     ∙ rest ∙ ap (λ (rs : List Row). opened_from rs desk) (other_rows rows p up mine.0)
 

@@ -11,7 +11,7 @@ use Rattle.hazard_types.specs.declared.line.Line.{Line}
 use Rattle.hazard_types.specs.declared.line.Row.{Row}
 use Rattle.hazard_types.proofs.Equality.{event_one, hazard_one}
 use Rattle.event_life.specs.Periods.{is_live, keeps_open, same_at}
-use Rattle.event_life.specs.Products.{by_key, going_in, has_rows, has_same, is_held, is_open, later_event, life_at, life_of, placed, put, row_at}
+use Rattle.event_life.specs.Products.{by_key, latest_open_event, has_rows, has_opened_period, is_number_held, is_open, later_event, life_at, life_of, placed, put, row_at}
 use Rattle.event_life.specs.Table.{opened_period}
 use Rattle.event_life.proofs.Keys.{key_exact}
 use Rattle.event_life.proofs.Puts.{all_above, at_key}
@@ -77,15 +77,15 @@ module _ (rows : List Row) (t : ℕ) where
   pub open_kept : (e : Event) → is_desks e.hazard ≡ true → is_open (keep rows) t e ≡ is_open rows t e
   open_kept e own = any_kept (λ (r : Row). same_event r.event e && keeps_open t r) (λ r h. of_event e r own (and_parts (same_event r.event e) _ h).0) rows
 
-  pub held_kept : (e : Event) → is_desks e.hazard ≡ true → is_held (keep rows) t e ≡ is_held rows t e
+  pub held_kept : (e : Event) → is_desks e.hazard ≡ true → is_number_held (keep rows) t e ≡ is_number_held rows t e
   held_kept e own = any_kept (λ (r : Row). same_hazard r.event.hazard e.hazard && (r.event.etn == e.etn) && nat_lt r.event.year e.year && keeps_open t r)
       (λ r h. of_hazard e.hazard r own (and_parts (same_hazard r.event.hazard e.hazard) _ (and_parts (same_hazard r.event.hazard e.hazard && (r.event.etn == e.etn)) _ (and_parts (same_hazard r.event.hazard e.hazard && (r.event.etn == e.etn) && nat_lt r.event.year e.year) _ h).0).0).0) rows
 
-  pub same_kept : (line : Line) → is_desks line.event.hazard ≡ true → has_same (keep rows) t line ≡ has_same rows t line
+  pub same_kept : (line : Line) → is_desks line.event.hazard ≡ true → has_opened_period (keep rows) t line ≡ has_opened_period rows t line
   same_kept line own = any_kept (λ (r : Row). same_event r.event line.event && is_live t r && same_at t r.period (opened_period line t))
       (λ r h. of_event line.event r own (and_parts (same_event r.event line.event) _ (and_parts (same_event r.event line.event && is_live t r) _ h).0).0) rows
 
-  pub going_kept : (g : Hazard) (n : ℕ) → is_desks g ≡ true → going_in (keep rows) g n t ≡ going_in rows g n t
+  pub going_kept : (g : Hazard) (n : ℕ) → is_desks g ≡ true → latest_open_event (keep rows) g n t ≡ latest_open_event rows g n t
   going_kept g n own = fold_kept (λ (r : Row). same_hazard r.event.hazard g && (r.event.etn == n) && keeps_open t r)
       (λ r h. of_hazard g r own (and_parts (same_hazard r.event.hazard g) _ (and_parts (same_hazard r.event.hazard g && (r.event.etn == n)) _ h).0).0) rows None
 

@@ -9,7 +9,7 @@ use Rattle.hazard_types.specs.declared.line.Line.{Line}
 use Rattle.hazard_types.specs.declared.line.Row.{Row}
 use Rattle.hazard_types.proofs.OrderLaws.{by_event_total}
 use Rattle.event_life.specs.Lives.{IsLawfulFrom, judged_product}
-use Rattle.event_life.specs.Openings.{add_event, opened_by, opened_from}
+use Rattle.event_life.specs.Openings.{add_event, events_opened_by, opened_from}
 use Rattle.event_life.specs.Products.{Product, is_new, lawful_of, row_at, rows_with}
 use Rattle.hazard_board.proofs.ConsistentLemmas.{stays_consistent}
 use Rattle.hazard_board.proofs.NumberLemmas.{have_one_open}
@@ -44,7 +44,7 @@ use Rattle.county_notices.proofs.Unbroken.{kept}
 
 -- ---- the event that a command opens
 
-none_opened : (lines : List Line) → AllByRecursion (λ (line : Line). is_new line.action ≡ false) lines → opened_by lines ≡ []
+none_opened : (lines : List Line) → AllByRecursion (λ (line : Line). is_new line.action ≡ false) lines → events_opened_by lines ≡ []
 none_opened [] all = refl
 none_opened (line ∷ lines) all = rw all.0 (none_opened lines all.1)
 
@@ -52,7 +52,7 @@ again : (e : Event) → add_event e (e ∷ []) ≡ e ∷ []
 again e = rw (tied_itself by_event_total e) refl
 
 module _ (rows : List Row) (t : ℕ) (e : Event) where
-  opens_one : (end : ℕ) (z : Place) (zones : List Place) → opened_by (lines_in_zones rows t e (deed.Open end) (z ∷ zones)) ≡ e ∷ []
+  opens_one : (end : ℕ) (z : Place) (zones : List Place) → events_opened_by (lines_in_zones rows t e (deed.Open end) (z ∷ zones)) ≡ e ∷ []
   opens_one end z [] = refl
   opens_one end z (y ∷ zones) = ap (add_event e) (opens_one end y zones) ∙ again e
 
@@ -68,11 +68,11 @@ module _ (rows : List Row) (t : ℕ) (e : Event) where
   ends_old [] = tt
   ends_old (z ∷ zones) = ending_old (row_at rows e z) (lines_in_zones rows t e deed.End zones) (ends_old zones)
 
-opens_some : (rows : List Row) (t : ℕ) (e : Event) (end : ℕ) (zones : List Place) → 1 ≤ length zones → opened_by (lines_in_zones rows t e (deed.Open end) zones) ≡ e ∷ []
+opens_some : (rows : List Row) (t : ℕ) (e : Event) (end : ℕ) (zones : List Place) → 1 ≤ length zones → events_opened_by (lines_in_zones rows t e (deed.Open end) zones) ≡ e ∷ []
 opens_some rows t e end [] h = absurd (omega (arith, h))
 opens_some rows t e end (z ∷ zones) h = opens_one rows t e end z zones
 
-opened_is : (rows : List Row) (c : Command) (e : Event) (d : Deed) → event_by rows c d ≡ Some e → 1 ≤ length c.zones → opened_by (lines_in_zones rows c.at e d c.zones) ≡ opened_by_deed c d
+opened_is : (rows : List Row) (c : Command) (e : Event) (d : Deed) → event_by rows c d ≡ Some e → 1 ≤ length c.zones → events_opened_by (lines_in_zones rows c.at e d c.zones) ≡ opened_by_deed c d
 opened_is rows c e (deed.Open end) is some = let same : new_event c ≡ e = cc in opens_some rows c.at e end c.zones some ∙ ap (λ (x : Event). x ∷ []) (sym same)
 opened_is rows c e (deed.Join end) is some = none_opened _ (joins_old rows c.at e end c.zones)
 opened_is rows c e deed.End is some = none_opened _ (ends_old rows c.at e c.zones)
@@ -86,7 +86,7 @@ record IsReadNotice (s : Noticed) (c : Command) (text : List ℕ) : Type 0 where
   whole : IsOk (decode text)
   apart : IsOneProduct text
   read : IsReadAs s.rows (lines_of s.rows c) c.at product
-  opened : opened_by (lawful_of (judged_product s.rows product)) ≡ opened_by_deed c c.deed
+  opened : events_opened_by (lawful_of (judged_product s.rows product)) ≡ opened_by_deed c c.deed
   others : IsOfOthers product
 
 -- watches are none of the desk's hazards
@@ -114,7 +114,7 @@ read_notice s c text stands accepted =
       whole = is_ok (decode text) _ (text_decodes text s.by c.at n.segments n.frame);
       apart = n.one;
       read = read;
-      opened = read.opened ∙ ap (λ (ls : List Line). opened_by ls) (ap (lines_if s.rows c) k.is) ∙ opened_is s.rows c k.event c.deed k.is k.some;
+      opened = read.opened ∙ ap (λ (ls : List Line). events_opened_by ls) (ap (lines_if s.rows c) k.is) ∙ opened_is s.rows c k.event c.deed k.is k.some;
       others = others_said s.by.office c.at (lines_in_text n.segments) (every (λ (line : Line). is_desks line.event.hazard ≡ false) (lines_in_text n.segments) (λ line there.
           let here : Has lines line = has_from lines line ((in_text lines n.segments n.are line).0 (contains_from (lines_in_text n.segments) line there)) in
           not_desks line.event c.watch (ap (λ (e : Event). e.hazard) (all_has (λ (l : Line). l.event ≡ k.event) lines line g.events here) ∙ k.hazard)));

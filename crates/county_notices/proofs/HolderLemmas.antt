@@ -5,7 +5,7 @@ use Rattle.hazard_types.specs.declared.hazard.Event.{Event}
 use Rattle.hazard_types.specs.declared.line.Row.{Row}
 use Rattle.office_types.specs.declared.refusal.Refusal.{Refusal}
 use Rattle.office_types.specs.declared.refusal.Refusal.TheVariants as reason
-use Rattle.event_life.specs.Products.{going_in}
+use Rattle.event_life.specs.Products.{latest_open_event}
 use Rattle.hazard_board.specs.Consistent.{IsConsistent}
 use Rattle.action_planner.specs.Offences.{holds, held_by as held_of}
 use Rattle.action_planner.proofs.GoingLemmas.{held_if_earlier as held_of_earlier, going_is_the_holder}
@@ -36,5 +36,5 @@ unfolding told
 told_row None = refl
 told_row (Some row) = refl
 
-pub going_holds : (rows : List Row) (t : ℕ) (e : Event) → IsConsistent rows t → held_if_earlier e (going_in rows e.hazard e.etn t) ≡ option_map held_by (find (holds t e) rows)
-going_holds rows t e h = sym (told_going e (going_in rows e.hazard e.etn t)) ∙ ap told (going_is_the_holder rows t e h) ∙ told_row (find (holds t e) rows)
+pub going_holds : (rows : List Row) (t : ℕ) (e : Event) → IsConsistent rows t → held_if_earlier e (latest_open_event rows e.hazard e.etn t) ≡ option_map held_by (find (holds t e) rows)
+going_holds rows t e h = sym (told_going e (latest_open_event rows e.hazard e.etn t)) ∙ ap told (going_is_the_holder rows t e h) ∙ told_row (find (holds t e) rows)

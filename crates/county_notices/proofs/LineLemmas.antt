@@ -15,9 +15,9 @@ use Rattle.office_types.specs.declared.request.Target.{Target}
 use Rattle.office_types.specs.declared.request.Target.TheVariants.{Fresh, Join}
 use Rattle.hazard_types.proofs.Equality.{event_itself, hazard_one, zone_itself}
 use Rattle.event_life.specs.Periods.{keeps_open, same_at}
-use Rattle.event_life.specs.Products.{going_in, has_rows, is_held, is_new, is_open, is_routine, is_upgrade, later_event, row_at}
+use Rattle.event_life.specs.Products.{latest_open_event, has_rows, is_number_held, is_new, is_open, is_routine, is_upgrade, later_event, row_at}
 use Rattle.hazard_board.specs.Board.{has_period}
-use Rattle.action_planner.specs.Lines.{is_near_end, joined_row, line_on, put_line, put_line_on, put_period, put_period_on}
+use Rattle.action_planner.specs.Lines.{is_near_end, joined_row, line_on, line_of_put, put_line_on, period_of_put, period_of_put_on}
 use Rattle.action_planner.specs.Offences.{has_row_by, is_bad_period}
 use Rattle.action_planner.proofs.LawfulKeys.{AreApart, IsOn, either_action, lines_on, of_key-parts, put-no_routine, put-no_upgrade}
 use Rattle.action_planner.proofs.LawfulLists.{EachPair, Has, all_append, all_has, all_weaker, any_has, every, pair_append}
@@ -53,7 +53,7 @@ pub record IsGoing (rows : List Row) (h : Hazard) (n t : ℕ) (d : Event) : Type
   pub number : d.etn ≡ n
   pub going : is_open rows t d ≡ true
 
-pub going_is : (rows : List Row) (h : Hazard) (n t : ℕ) (d : Event) → going_in rows h n t ≡ Some d → IsGoing rows h n t d
+pub going_is : (rows : List Row) (h : Hazard) (n t : ℕ) (d : Event) → latest_open_event rows h n t ≡ Some d → IsGoing rows h n t d
 going_is rows h n t d f =
     let named : Row → Bool = λ r. same_hazard r.event.hazard h && (r.event.etn == n) && keeps_open t r in
     best_from (IsGoing rows h n t) named rows None d (λ b g. cc)
@@ -82,8 +82,8 @@ put_flood rows t e target end z None = refl
 put_flood rows t e target end z (Some row) = refl
 
 pub join_old : (rows : List Row) (t : ℕ) (e : Event) (end : ℕ) (z : Place) (o : Option Row) → is_new (put_line_on rows t e (put_of (Join e) end) z o).action ≡ false
-join_old rows t e end z None = either_action is_new (has_period rows e (put_period (put_of (Join e) end) t) t) Exa Exb refl refl
-join_old rows t e end z (Some row) = either_action is_new (same_at t row.period (put_period_on (put_of (Join e) end) t row)) Con Ext refl refl
+join_old rows t e end z None = either_action is_new (has_period rows e (period_of_put (put_of (Join e) end) t) t) Exa Exb refl refl
+join_old rows t e end z (Some row) = either_action is_new (same_at t row.period (period_of_put_on (put_of (Join e) end) t row)) Con Ext refl refl
 
 good_end : (target : Target) (end t : ℕ) → nat_le end t ≡ false → is_bad_period (put_of target end) t ≡ false
 good_end target end t h =
@@ -92,7 +92,7 @@ good_end target end t h =
     rw (now, later) refl
 
 module _ (rows : List Row) (t : ℕ) (e : Event) where
-  put_good : (target : Target) (end : ℕ) (z : Place) → IsSound rows t (put_line rows t e (put_of target end) z) → (is_new (put_line rows t e (put_of target end) z).action ≡ true → e.year ≡ year_of t) → IsGood rows t e z (put_line rows t e (put_of target end) z)
+  put_good : (target : Target) (end : ℕ) (z : Place) → IsSound rows t (line_of_put rows t e (put_of target end) z) → (is_new (line_of_put rows t e (put_of target end) z).action ≡ true → e.year ≡ year_of t) → IsGood rows t e z (line_of_put rows t e (put_of target end) z)
   put_good target end z sound year = record {
     sound = sound;
     on = (lines_on rows t [] e (Put (put_of target end)) z).0;
@@ -122,7 +122,7 @@ module _ (rows : List Row) (t : ℕ) (e : Event) where
 
   -- and of the event
   abbrev pub IsFitFor : Deed → Type 0
-  IsFitFor (deed.Open end) = (has_rows rows e ≡ false) × (is_held rows t e ≡ false) × (e.year ≡ year_of t)
+  IsFitFor (deed.Open end) = (has_rows rows e ≡ false) × (is_number_held rows t e ≡ false) × (e.year ≡ year_of t)
   IsFitFor (deed.Join end) = is_open rows t e ≡ true
   IsFitFor deed.End = is_open rows t e ≡ true
 

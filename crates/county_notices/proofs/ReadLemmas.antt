@@ -20,7 +20,7 @@ use Rattle.event_life.specs.declared.life.Breach.{Breach}
 use Rattle.event_life.specs.declared.life.Breach.TheVariants.{Twice}
 use Rattle.event_life.specs.Firsts.{is_lawful}
 use Rattle.event_life.specs.Lives.{AreLawful, judged_product}
-use Rattle.event_life.specs.Openings.{opened_by}
+use Rattle.event_life.specs.Openings.{events_opened_by}
 use Rattle.event_life.specs.Printed.{HasOneOpen, zone_line_of}
 use Rattle.event_life.specs.Products.{Product, around_of, breach_in, by_key, is_new, is_routine, is_second, judged, judged_from, lawful_of, life_at, line_of, lines_of, rows_after, rows_with}
 use Rattle.event_life.specs.Reordered.{are_lawful}
@@ -139,7 +139,7 @@ module _ (rows : List Row) (t : ℕ) (office : List ℕ) where
 pub record IsReadAs (rows : List Row) (lines : List Line) (t : ℕ) (p : Product) : Type 0 where
   pub lawful : list_all (λ (l : Line × Option Breach). is_none l.1) (judged_product rows p) ≡ true
   pub rows_are : rows_with rows p ≡ rows_after rows t lines
-  pub opened : opened_by (lawful_of (judged_product rows p)) ≡ opened_by lines
+  pub opened : events_opened_by (lawful_of (judged_product rows p)) ≡ events_opened_by lines
 
 pub product_reads : (rows : List Row) (t : ℕ) (office : List ℕ) (lines : List Line) (segments : List Segment) →
     IsStrictlySortedBy by_key rows → HasOneOpen rows t → are_lawful rows t lines ≡ true → AllPairs IsApart lines →
@@ -152,7 +152,7 @@ product_reads rows t office lines segments up one lawful apart years plain are =
     record {
       lawful = ap (are_lawful rows t) back ∙ none;
       rows_are = ap (rows_after rows t) back ∙ text_rows rows t lines segments up are apart;
-      opened = ap (λ (ls : List Line). opened_by (lawful_of (judged rows t ls))) back ∙ opened_lawful rows t said none ∙ text_opened lines segments are;
+      opened = ap (λ (ls : List Line). events_opened_by (lawful_of (judged rows t ls))) back ∙ opened_lawful rows t said none ∙ text_opened lines segments are;
     }
 
 -- a product without a breach has lawful lines of each event in each zone

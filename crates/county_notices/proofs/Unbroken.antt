@@ -8,7 +8,7 @@ use Rattle.hazard_types.specs.Same.{same_zone}
 use Rattle.hazard_types.specs.declared.hazard.Event.{Event}
 use Rattle.hazard_types.specs.declared.line.Row.{Row}
 use Rattle.event_life.specs.Products.{has_rows}
-use Rattle.action_planner.specs.Fitting.{are_zones}
+use Rattle.action_planner.specs.Fitting.{is_valid_zone_list}
 use Rattle.action_planner.specs.Offences.{holds}
 use Rattle.action_planner.proofs.FittingLemmas.{zones_Decide}
 use Rattle.action_planner.proofs.LawfulLists.{all_each, find_none, none_from}
@@ -56,7 +56,7 @@ kept_alone last c h =
     let z = none_given (bad_zones c) _ b.1 in
     let k = none_given (not_county c) _ z.1 in
     let e = none_given (bad_end c) _ k.1 in
-    let zones = (zones_Decide c.zones).0 (not-false _ (not_refused (not (are_zones c.zones)) _ z.0)) in
+    let zones = (zones_Decide c.zones).0 (not-false _ (not_refused (not (is_valid_zone_list c.zones)) _ z.0)) in
     record {
       later = ltb-false c.at last (not_refused (nat_lt c.at last) _ b.0);
       minute = ltb-false 52000000 c.at (not_refused (nat_lt 52000000 c.at) _ a.0);

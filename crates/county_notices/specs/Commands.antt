@@ -8,7 +8,7 @@ use Rattle.hazard_types.specs.declared.line.Row.{Row}
 use Rattle.hazard_types.specs.declared.zone.Kind.TheVariants as kind
 use Rattle.event_life.specs.Periods.{is_live, keeps_open}
 use Rattle.event_life.specs.Products.{has_rows, row_at}
-use Rattle.action_planner.specs.Fitting.{are_zones}
+use Rattle.action_planner.specs.Fitting.{is_valid_zone_list}
 use Rattle.action_planner.specs.Offences.{first_given, has_row_by, holds}
 use Rattle.notice_json.specs.declared.command.Command.{Command}
 use Rattle.notice_json.specs.declared.command.Deed.{Deed}
@@ -37,7 +37,7 @@ time_back last c = refused_if (nat_lt c.at last) (refusal.TimeBack last)
 
 -- BadZones: none, more than 600, or one that stands twice
 abbrev pub bad_zones : Command → Option NoticeRefusal
-bad_zones c = refused_if (not (are_zones c.zones)) refusal.BadZones
+bad_zones c = refused_if (not (is_valid_zone_list c.zones)) refusal.BadZones
 
 -- NotCounty: a public zone; the first one as written is named
 abbrev pub is_public : Place → Bool

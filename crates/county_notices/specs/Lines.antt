@@ -12,8 +12,8 @@ use Rattle.hazard_types.specs.declared.period.End.TheVariants.{At}
 use Rattle.office_types.specs.declared.request.PutPart.{PutPart}
 use Rattle.office_types.specs.declared.request.Target.{Target}
 use Rattle.office_types.specs.declared.request.Target.TheVariants.{Fresh, Join}
-use Rattle.event_life.specs.Products.{going_in, row_at}
-use Rattle.action_planner.specs.Lines.{is_near_end, line_on, opening_action, put_line}
+use Rattle.event_life.specs.Products.{latest_open_event, row_at}
+use Rattle.action_planner.specs.Lines.{is_near_end, line_on, opening_action, line_of_put}
 use Rattle.action_planner.specs.Texts.{no_texts}
 use Rattle.notice_json.specs.Commands.{hazard_of}
 use Rattle.notice_json.specs.declared.command.Command.{Command}
@@ -26,7 +26,7 @@ new_event c = record { hazard = hazard_of c.watch; etn = c.number; year = year_o
 
 -- the open event of its hazard and number
 abbrev pub open_event : List Row → Command → Option Event
-open_event rows c = going_in rows (hazard_of c.watch) c.number c.at
+open_event rows c = latest_open_event rows (hazard_of c.watch) c.number c.at
 
 -- the event that a command speaks of
 abbrev pub event_by : List Row → Command → Deed → Option Event
@@ -54,8 +54,8 @@ ending_lines t (Some row) = line_on (ending_action t row) t row ∷ []
 
 -- What a command says of a zone: an open and a join the line of such a put, an end that the row ends; it says nothing where there is no row (and is refused).
 abbrev pub lines_in : List Row → ℕ → Event → Deed → Place → List Line
-lines_in rows t e (deed.Open end) z = put_line rows t e (put_of (Fresh e.hazard) end) z ∷ []
-lines_in rows t e (deed.Join end) z = put_line rows t e (put_of (Join e) end) z ∷ []
+lines_in rows t e (deed.Open end) z = line_of_put rows t e (put_of (Fresh e.hazard) end) z ∷ []
+lines_in rows t e (deed.Join end) z = line_of_put rows t e (put_of (Join e) end) z ∷ []
 lines_in rows t e deed.End z = ending_lines t (row_at rows e z)
 
 -- by zone as it was written

@@ -1,7 +1,7 @@
 //! The lines of a command. An unended row is one that no line has ended.
 ghost use Rattle.std.specs.Prelude.{◌≡◌, ◌++◌, IfOk, OnOk};
 ghost use Rattle.office_types.specs.declared.request.Target.TheVariants.{Fresh, Join};
-ghost use Rattle.action_planner.specs.Lines.{opening_action, opening_line_by, put_line, put_period_on};
+ghost use Rattle.action_planner.specs.Lines.{opening_action, opening_line_by, line_of_put, period_of_put_on};
 ghost use Rattle.county_notices.specs.Lines.{new_event, open_event, event_by, put_of, entering_action, ending_action, ending_lines, lines_in, lines_in_zones, lines_of};
 
 use action_planner::{carried_line, is_near_end, line_on, unless_ended};
@@ -10,8 +10,8 @@ use hazard_types::{Action, End, Event, Line, List, Minute, Oom, Period, Row, Zon
 use notice_json::{Command, Deed};
 use std::alloc::Global;
 
-/// Returns the event that a command would open: its number is the command's, its year that of the
-/// command's minute.
+/// Returns the event that a command would open. Its number is the command's, its year that of the
+/// command's minute, in UTC.
 pub fn new_event(command: &Command) -> Event
     ensures { result ≡ new_event command.now }
 {
@@ -22,15 +22,18 @@ pub fn new_event(command: &Command) -> Event
     }
 }
 
-/// Returns the open event of the hazard and number of a command.
+/// Returns the event of the command's hazard and number that is open at the command's minute, the
+/// one of the greatest year if there are several, or `None` if there is none. An event is open if
+/// it has a row that no line has ended and whose end is at most half an hour past.
 pub fn open_event(board: &Board, command: &Command) -> Option<Event>
     ensures { result ≡ open_event board.now.rows command.now }
 {
     board.going(command.watch.hazard(), command.number, command.at)
 }
 
-/// Returns the event of a command: the one that it opens, else the open one of its hazard and
-/// number.
+/// Returns the event that a command opens, or, for a command that joins or ends an event, the open
+/// event of its hazard and number, or `None` if none is open. An event is open if it has a row that
+/// no line has ended and whose end is at most half an hour before the command's minute.
 pub fn event_by(board: &Board, command: &Command) -> Option<Event>
     ensures { result ≡ event_by board.now.rows command.now command.now.deed }
 {
@@ -40,10 +43,11 @@ pub fn event_by(board: &Board, command: &Command) -> Option<Event>
     }
 }
 
-/// Returns the `NEW` line of an event in a zone.
+/// Returns the `NEW` line that opens `event` in `zone`, from the minute `t` of the command to
+/// `end`. `board` is named only by the contract.
 fn new_line(board: &Board, t: Minute, event: &Event, end: Minute, zone: &Zone) -> Line
     ensures { result
-        ≡ put_line board.now.rows t event.now (put_of (Fresh event.now.hazard) end) zone.now }
+        ≡ line_of_put board.now.rows t event.now (put_of (Fresh event.now.hazard) end) zone.now }
 {
     Line {
         action: Action::New,
@@ -55,9 +59,10 @@ fn new_line(board: &Board, t: Minute, event: &Event, end: Minute, zone: &Zone) -
     }
 }
 
-/// Returns the action in zones without an unended row: `NEW` for an opened event, `EXA` for a
-/// joined one with a live row of the same period, else `EXB`. A command that ends the watch does
-/// not use it.
+/// Returns the action of a command's lines in zones where `event` has no row, or only a row that a
+/// line has ended. It is `NEW` if the command opens the event; if it joins the event, `EXA` if a
+/// live row of the event has begun by the command's minute and has the end that the command gives,
+/// else `EXB`. For a command that ends the event, whose lines don't use it, it is `NEW`.
 ///
 /// Source: NWS Instruction 10-1703, P-VTEC action codes; docs/NOTICES.md, "A line".
 fn entering_action(board: &Board, command: &Command, event: &Event) -> Action
@@ -79,7 +84,8 @@ fn entering_action(board: &Board, command: &Command, event: &Event) -> Action
     }
 }
 
-/// Returns the line of an event that joins a zone without an unended row.
+/// Returns the line that adds `zone` to `event`, from the minute `t` of the command to `end`. The
+/// zone has no row of the event that is not ended, and `action` is `EXA` or `EXB`.
 fn entering_line(action: Action, t: Minute, event: &Event, end: Minute, zone: &Zone) -> Line
     ensures { result ≡ opening_line_by action t event.now (put_of (Join event.now) end) zone.now }
 {
@@ -93,9 +99,10 @@ fn entering_line(action: Action, t: Minute, event: &Event, end: Minute, zone: &Z
     }
 }
 
-/// Returns the period of a join on an unended row. A row that has begun keeps its begin.
+/// Returns the period to `end` that a join at minute `t` gives `row`, which no line has ended. It
+/// begins where the row begins if that is not after `t`, else at `t`. `event` is the row's event.
 fn joined_period(t: Minute, end: Minute, event: &Event, row: &Row) -> Period
-    ensures { result ≡ put_period_on (put_of (Join event.now) end) t row.now }
+    ensures { result ≡ period_of_put_on (put_of (Join event.now) end) t row.now }
 {
     let begin = if row.period.begin.get() <= t.get() {
         row.period.begin
@@ -108,7 +115,9 @@ fn joined_period(t: Minute, end: Minute, event: &Event, row: &Row) -> Period
     }
 }
 
-/// Returns the line of a join in a zone. `entering` is the action for zones without an unended row.
+/// Returns the line of a command that joins `zone` to `event` at minute `t` until `end`. If the
+/// event has a row in the zone that no line has ended, it is `CON` if the period of the row stays
+/// the same, else `EXT`; without such a row it has the action `entering`.
 fn join_line(
     board: &Board,
     t: Minute,
@@ -119,7 +128,7 @@ fn join_line(
 ) -> Line
     requires { entering ≡ opening_action board.now.rows t event.now
         (put_of (Join event.now) end) (Join event.now) }
-    ensures { result ≡ put_line board.now.rows t event.now (put_of (Join event.now) end) zone.now }
+    ensures { result ≡ line_of_put board.now.rows t event.now (put_of (Join event.now) end) zone.now }
 {
     match unless_ended(board.row(*event, *zone)) {
         None => entering_line(entering, t, event, end, zone),
@@ -127,7 +136,8 @@ fn join_line(
     }
 }
 
-/// Returns `EXP` within half an hour of the row's end, before or after, else `CAN`.
+/// Returns the action that ends a row at minute `t`: `EXP` within half an hour of the row's end,
+/// before or after, else `CAN`.
 ///
 /// Source: NWS Instruction 10-1703, P-VTEC action codes; docs/NOTICES.md, "A line".
 fn ending_action(t: Minute, row: &Row) -> Action
@@ -140,7 +150,8 @@ fn ending_action(t: Minute, row: &Row) -> Action
     }
 }
 
-/// Adds the line that ends a row; none if there is no row.
+/// Appends the line that ends `row` at minute `t`, or nothing if there is no row. It is `EXP`
+/// within half an hour of the end of the row, before or after, else `CAN`.
 fn add_ending(lines: &mut List<Line>, t: Minute, row: &Option<Row>) -> Result<(), Oom>
     ensures { OnOk result (lines.new ≡ lines.old ++ ending_lines t row.now) }
 {
@@ -150,7 +161,9 @@ fn add_ending(lines: &mut List<Line>, t: Minute, row: &Option<Row>) -> Result<()
     }
 }
 
-/// Adds the line of a command in one of its zones. `entering` is `entering_action` of the command.
+/// Appends the line of a command on `event` in `zone`, one of its zones, or nothing if the command
+/// ends the event and the event has no row there. `entering` is the action for a zone that joins
+/// the event without a row of it that is not ended.
 fn add_in_zone(
     lines: &mut List<Line>,
     board: &Board,
@@ -171,7 +184,8 @@ fn add_in_zone(
     }
 }
 
-/// Returns the lines of a command on `event`, in the order in which its zones are written.
+/// Returns the lines of a command on `event`, one for each of its zones, in the order in which the
+/// command names them. A command that ends the event has no line in a zone without a row of it.
 fn lines_in_zones(
     alloc: Global,
     board: &Board,
@@ -189,8 +203,9 @@ fn lines_in_zones(
     Ok(lines)
 }
 
-/// Returns the lines of a command, in the order in which its zones are written; none if no event of
-/// its hazard and number is open.
+/// Returns the lines of a command, one for each of its zones, in the order in which the command
+/// names them. There are none if it joins or ends a watch and no event of its hazard and number is
+/// open; one that ends a watch has none in a zone without a row.
 ///
 /// # Errors
 ///

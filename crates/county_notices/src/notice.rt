@@ -15,6 +15,7 @@ use product_frame::{Block, Body, Frame, FrameSegment, Heading, Pair, frame_text}
 use segmenter::{expiry, segments};
 use std::alloc::Global;
 
+/// Returns the name of a watch as notices print it, as `Tornado Watch`.
 fn watch_name(watch: Watch) -> &'static [u8]
     ensures { result.now ≡ watch_name watch }
 {
@@ -24,6 +25,8 @@ fn watch_name(watch: Watch) -> &'static [u8]
     }
 }
 
+/// Returns the WMO heading of a notice that is issued at `t`: `WWUS61`, the office, and the day of
+/// the month, hour and minute of `t` in UTC.
 fn heading_of(issuer: &Issuer, t: Minute) -> Heading
     ensures { result ≡ heading_of issuer.now t }
 {
@@ -35,7 +38,7 @@ fn heading_of(issuer: &Issuer, t: Minute) -> Heading
     }
 }
 
-/// Returns `WCN` and the office's last three characters.
+/// Returns the AWIPS identifier of a notice: `WCN` and the office's last three characters.
 fn identifier_of(alloc: Global, issuer: &Issuer) -> Result<Text, Oom>
     ensures { IfOk result (λ text. text ≡ identifier_of issuer.now) }
 {
@@ -44,6 +47,8 @@ fn identifier_of(alloc: Global, issuer: &Issuer) -> Result<Text, Oom>
     Ok(text)
 }
 
+/// Returns the end that a P-VTEC line prints, or `None` for until further notice, which is printed
+/// as zeros.
 fn printed_end(end: &End) -> Option<Minute>
     ensures { result ≡ printed_end end.now }
 {
@@ -53,7 +58,8 @@ fn printed_end(end: &End) -> Option<Minute>
     }
 }
 
-/// Returns the P-VTEC and H-VTEC values of a line, of class O.
+/// Returns the values of the P-VTEC string of a line, with class O and `office`, and the values of
+/// its H-VTEC string, if the line has flood values.
 fn pair_of(office: [u8; 4], line: &SegLine) -> Pair
     ensures { result ≡ pair_of office line.now }
 {
@@ -72,6 +78,8 @@ fn pair_of(office: [u8; 4], line: &SegLine) -> Pair
     }
 }
 
+/// Returns the values of the P-VTEC and H-VTEC strings of each of the lines, in order. `office` is
+/// the one that issues them.
 fn pairs_of(alloc: Global, office: [u8; 4], lines: &[SegLine]) -> Result<List<Pair>, Oom>
     ensures { IfOk result (λ pairs. pairs ≡ map (pair_of office) lines.now) }
 {
@@ -82,6 +90,9 @@ fn pairs_of(alloc: Global, office: [u8; 4], lines: &[SegLine]) -> Result<List<Pa
     Ok(pairs)
 }
 
+/// Returns what a notice of `office` that is issued at `t` prints for a segment: its zones, the
+/// day, hour and minute (UTC) of its expiry, and the values of its P-VTEC and H-VTEC strings, in
+/// order.
 fn segment_of(
     alloc: Global,
     office: [u8; 4],
@@ -101,6 +112,8 @@ fn segment_of(
     })
 }
 
+/// Returns what a notice of `office` that is issued at `t` prints for each segment, in order: the
+/// zones, the expiry, and the values of the P-VTEC and H-VTEC strings.
 fn segments_of(
     alloc: Global,
     office: [u8; 4],
@@ -117,7 +130,9 @@ fn segments_of(
     Ok(list)
 }
 
-/// Returns the frame of the notice of these segments: the values that a reader finds in its text.
+/// Returns the values that a reader finds in the text of the notice of these segments that is
+/// issued at minute `t`: its heading, its AWIPS identifier, `t`, and the zones, expiry and VTEC
+/// values of each segment, in order.
 fn frame_of(
     alloc: Global,
     issuer: &Issuer,
@@ -137,7 +152,9 @@ fn frame_of(
     })
 }
 
-/// Returns the lines between the identifier and the first segment.
+/// Returns the lines between the identifier and the first segment of a notice that is issued at
+/// `t`: `WATCH COUNTY NOTIFICATION`, `National Weather Service`, and the local time of `t` in the
+/// zone of the issuer.
 fn block_of(alloc: Global, issuer: &Issuer, t: Minute) -> Result<Block, Oom>
     ensures { IfOk result (λ block. block ≡ block_of issuer.now t) }
 {
@@ -151,7 +168,9 @@ fn block_of(alloc: Global, issuer: &Issuer, t: Minute) -> Result<Block, Oom>
     })
 }
 
-/// Returns the body of a segment: the name of the watch, and an empty line.
+/// Returns what the notice of a watch prints below the VTEC strings of a segment, beside the local
+/// time: no names of zones, and the name of the watch, as `Tornado Watch`, with an empty line after
+/// it. It is the same for each segment.
 fn body_of(alloc: Global, watch: Watch, segment: &Segment) -> Result<Body, Oom>
     ensures { IfOk result (λ body. body ≡ body_of watch segment.now) }
 {
@@ -163,6 +182,8 @@ fn body_of(alloc: Global, watch: Watch, segment: &Segment) -> Result<Body, Oom>
     })
 }
 
+/// Returns, for each segment in order, what the notice of a watch prints below its VTEC strings,
+/// beside the local time: no names of zones, and the name of the watch with an empty line after it.
 fn bodies_of(alloc: Global, watch: Watch, segments: &[Segment]) -> Result<List<Body>, Oom>
     ensures { IfOk result (λ bodies. bodies ≡ map (body_of watch) segments.now) }
 {
@@ -173,7 +194,8 @@ fn bodies_of(alloc: Global, watch: Watch, segments: &[Segment]) -> Result<List<B
     Ok(bodies)
 }
 
-/// Returns the notice of these segments.
+/// Returns the text of the notice of `issuer` with these segments, in order, issued at minute `t`:
+/// lines that each end with LF. Each segment names the watch, as `Tornado Watch`.
 #[tactic(auto, unfolding(crate::specs::Notices::text_of))]
 fn segments_text(
     alloc: Global,
@@ -195,8 +217,10 @@ fn segments_text(
     frame_text(alloc, &frame, &block, &bodies)
 }
 
-/// Returns the notice of these lines, issued at minute `t`, however long: lines that each end with
-/// LF. Zones with the same lines share a segment.
+/// Returns the text of the notice of `watch` with these lines, issued at minute `t`, at most
+/// 52,000,000: lines that each end with LF, however many bytes in all. Zones with the same lines
+/// share a segment, which names the watch, as `Tornado Watch`. Each of `lines` must have an event
+/// number of at most 9,999 and no flood values.
 ///
 /// # Errors
 ///

@@ -51,13 +51,15 @@ struct Judged {
     text: Text,
 }
 
-/// Returns a refusal as a line.
+/// Returns the reply that writes a refusal as a line of JSON.
 fn refusal_reply(alloc: Global, refusal: &NoticeRefusal) -> Result<Reply, Oom>
     ensures { IfOk result (λ reply. bytes_of reply ≡ refusal_line refusal.now) }
 {
     Ok(Reply::Line(refusal_text(alloc, refusal)?))
 }
 
+/// Returns minute 0, which stands for the minute of the last accepted command while there is none
+/// yet.
 fn first_minute() -> Minute
     ensures { result ≡ 0 }
 {
@@ -68,7 +70,7 @@ fn first_minute() -> Minute
 }
 
 impl Notices {
-    /// Returns an office before its first notice.
+    /// Returns an office of county notices before its first notice, without rows.
     pub fn new(alloc: Global, issuer: Issuer) -> Self
         requires { IsTrue (is_office issuer.office) }
         ensures { result ≡ first issuer }
@@ -80,7 +82,7 @@ impl Notices {
         }
     }
 
-    /// Returns the lines of a command and its notice.
+    /// Returns the lines of a command and the text of its notice. Nothing is changed.
     ///
     /// # Errors
     ///
@@ -104,7 +106,7 @@ impl Notices {
         Ok(Judged { lines, text })
     }
 
-    /// Accepts a command and returns its notice.
+    /// Applies the lines of a command to the rows, and returns the text of its notice.
     ///
     /// # Errors
     ///
@@ -124,7 +126,8 @@ impl Notices {
         Ok(judged.text)
     }
 
-    /// Returns the notice of a command or its refusal.
+    /// Returns the reply to a command: its notice, or its refusal as a line of JSON. An accepted
+    /// command is applied to the rows; a refused one changes nothing.
     fn answer_command(&mut self, alloc: Global, command: &Command) -> Result<Reply, Oom>
         requires { command.now.number ≤ 9999 }
         ensures answered { IfOk result (λ reply.

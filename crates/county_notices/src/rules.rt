@@ -4,13 +4,13 @@
 ghost use Rattle.std.specs.Prelude.{◌≡◌, find, option_map};
 ghost use Rattle.event_life.specs.Products.{has_rows};
 ghost use Rattle.hazard_board.specs.Consistent.{IsConsistent};
-ghost use Rattle.action_planner.specs.Fitting.{are_zones};
+ghost use Rattle.action_planner.specs.Fitting.{is_valid_zone_list};
 ghost use Rattle.action_planner.specs.Offences.{holds};
 ghost use Rattle.county_notices.specs.Commands.{broken_with, broken_by_itself, broken_by_rows, time_out, time_back, bad_zones, is_public, not_county, has_bad_end, bad_end, held_by, number_used, number_held, none_open, no_watch, was_left, is_gone, left_in, gone_in, left_before, not_live};
 ghost use Rattle.county_notices.specs.Lines.{new_event};
 
 use crate::lines::{new_event, open_event};
-use action_planner::are_zones;
+use action_planner::is_valid_zone_list;
 use event_life::{is_live, keeps_open};
 use hazard_board::{Board, consistent_rows_stay_consistent};
 use hazard_types::{Event, Kind, Minute, Zone};
@@ -19,7 +19,8 @@ use notice_json::{Command, Deed, NoticeRefusal};
 /// The last minute at which the office issues notices.
 const LAST_MINUTE: u32 = 52_000_000;
 
-/// TimeOut: the minute is above the last one.
+/// Returns `TimeOut` if the command's minute is above 52,000,000, the last one at which notices are
+/// issued, or `None` otherwise.
 fn time_out(command: &Command) -> Option<NoticeRefusal>
     ensures { result ≡ time_out command.now }
 {
@@ -30,7 +31,8 @@ fn time_out(command: &Command) -> Option<NoticeRefusal>
     }
 }
 
-/// TimeBack: the minute is before `last`, that of the last accepted command.
+/// Returns `TimeBack` if the command's minute is before `last`, that of the last accepted command,
+/// or `None` otherwise.
 fn time_back(last: Minute, command: &Command) -> Option<NoticeRefusal>
     ensures { result ≡ time_back last command.now }
 {
@@ -43,12 +45,13 @@ fn time_back(last: Minute, command: &Command) -> Option<NoticeRefusal>
 
 /// Whether there are 1 to 600 zones, all distinct.
 fn may_be_named(zones: &[Zone]) -> bool
-    ensures { result ≡ are_zones zones.now }
+    ensures { result ≡ is_valid_zone_list zones.now }
 {
-    are_zones(zones)
+    is_valid_zone_list(zones)
 }
 
-/// BadZones: no zone, more than 600, or one that occurs twice.
+/// Returns `BadZones` if the command has no zone, more than 600, or one of them twice, or `None`
+/// otherwise.
 fn bad_zones(command: &Command) -> Option<NoticeRefusal>
     ensures { result ≡ bad_zones command.now }
 {
@@ -59,7 +62,7 @@ fn bad_zones(command: &Command) -> Option<NoticeRefusal>
     }
 }
 
-/// Returns the first zone that is a public forecast zone, not a county.
+/// Returns the first zone that is a public forecast zone, not a county, or `None` if there is none.
 fn first_public(zones: &[Zone]) -> Option<Zone>
     ensures { result ≡ find is_public zones.now }
 {
@@ -71,7 +74,8 @@ fn first_public(zones: &[Zone]) -> Option<Zone>
     None
 }
 
-/// NotCounty: a zone is a public forecast zone. Names the first.
+/// Returns `NotCounty` with the first zone of the command that is a public forecast zone, or `None`
+/// if all are counties.
 fn not_county(command: &Command) -> Option<NoticeRefusal>
     ensures { result ≡ not_county command.now }
 {
@@ -81,6 +85,7 @@ fn not_county(command: &Command) -> Option<NoticeRefusal>
     }
 }
 
+/// Whether the command opens or joins a watch with an end that is not after the command's minute.
 fn has_bad_end(command: &Command) -> bool
     ensures { result ≡ has_bad_end command.now.at command.now.deed }
 {
@@ -90,7 +95,8 @@ fn has_bad_end(command: &Command) -> bool
     }
 }
 
-/// BadEnd: the end is not after the minute.
+/// Returns `BadEnd` if the command opens or joins a watch with an end that is not after the
+/// command's minute, or `None` otherwise.
 fn bad_end(command: &Command) -> Option<NoticeRefusal>
     ensures { result ≡ bad_end command.now }
 {
@@ -101,7 +107,9 @@ fn bad_end(command: &Command) -> Option<NoticeRefusal>
     }
 }
 
-/// Returns the first broken rule among those that look at the command and `last` only.
+/// Returns the refusal for the first rule that the command breaks without regard to the rows, of
+/// TimeOut, TimeBack, BadZones, NotCounty, BadEnd, in this order, or `None` if it breaks none of
+/// them. `last` is the minute of the last accepted command, 0 before the first.
 #[tactic(auto, unfolding(crate::specs::Commands::broken_by_itself))]
 fn broken_by_itself(last: Minute, command: &Command) -> Option<NoticeRefusal>
     ensures { result ≡ broken_by_itself last command.now }
@@ -125,13 +133,15 @@ fn broken_by_itself(last: Minute, command: &Command) -> Option<NoticeRefusal>
     bad_end(command)
 }
 
+/// Whether the event has a row on the board, ended or not.
 fn is_used(board: &Board, event: &Event) -> bool
     ensures { result ≡ has_rows board.now.rows event.now }
 {
     board.has(*event)
 }
 
-/// NumberUsed: the event that is to be opened has rows, ended or not.
+/// Returns `NumberUsed` if the command opens an event that has rows already, ended or not, or
+/// `None` otherwise.
 fn number_used(board: &Board, command: &Command) -> Option<NoticeRefusal>
     ensures { result ≡ number_used board.now.rows command.now command.now.deed }
 {
@@ -148,7 +158,9 @@ fn number_used(board: &Board, command: &Command) -> Option<NoticeRefusal>
     }
 }
 
-/// Returns the refusal NumberHeld if an open event of an earlier year has the number.
+/// Returns `NumberHeld` if an event of an earlier year with the hazard and number of the event that
+/// the command would open is open, or `None` otherwise. An event is open if it has a row that no
+/// line has ended and whose end is at most half an hour before the command's minute.
 fn holder(board: &Board, command: &Command) -> Option<NoticeRefusal>
     requires { IsConsistent board.now.rows command.now.at }
     ensures { result ≡ option_map held_by
@@ -163,7 +175,9 @@ fn holder(board: &Board, command: &Command) -> Option<NoticeRefusal>
     }
 }
 
-/// NumberHeld: an open event of an earlier year has the number of the event that is to be opened.
+/// Returns `NumberHeld` if the command opens an event while an event of an earlier year with the
+/// same hazard and number is open, or `None` otherwise. An event is open if it has a row that no
+/// line has ended and whose end is at most half an hour before the command's minute.
 fn number_held(board: &Board, command: &Command) -> Option<NoticeRefusal>
     requires { IsConsistent board.now.rows command.now.at }
     ensures { result ≡ number_held board.now.rows command.now command.now.deed }
@@ -174,7 +188,9 @@ fn number_held(board: &Board, command: &Command) -> Option<NoticeRefusal>
     }
 }
 
-/// Returns the refusal NoWatch if no event of the hazard and number is open.
+/// Returns `NoWatch` if no event of the command's hazard and number is open at the command's
+/// minute, or `None` otherwise. An event is open if it has a row that no line has ended and whose
+/// end is at most half an hour past.
 fn none_open(board: &Board, command: &Command) -> Option<NoticeRefusal>
     ensures { result ≡ none_open board.now.rows command.now }
 {
@@ -184,7 +200,9 @@ fn none_open(board: &Board, command: &Command) -> Option<NoticeRefusal>
     }
 }
 
-/// NoWatch: a join or an end, and no event of the hazard and number is open.
+/// Returns `NoWatch` if the command joins or ends a watch and no event of its hazard and number is
+/// open, or `None` otherwise. An event is open if it has a row that no line has ended and whose end
+/// is at most half an hour before the command's minute.
 fn no_watch(board: &Board, command: &Command) -> Option<NoticeRefusal>
     ensures { result ≡ no_watch board.now.rows command.now command.now.deed }
 {
@@ -194,7 +212,8 @@ fn no_watch(board: &Board, command: &Command) -> Option<NoticeRefusal>
     }
 }
 
-/// Whether the event has a row in the zone whose end has come and that no line has ended.
+/// Whether the event has a row in the zone whose end has come by minute `t` and that no line has
+/// ended.
 fn was_left(board: &Board, t: Minute, event: &Event, zone: &Zone) -> bool
     ensures { result ≡ was_left board.now.rows t event.now zone.now }
 {
@@ -204,7 +223,8 @@ fn was_left(board: &Board, t: Minute, event: &Event, zone: &Zone) -> bool
     }
 }
 
-/// Returns the first zone for which `was_left` holds.
+/// Returns the first of `zones` in which the event has a row whose end has come by minute `t` and
+/// that no line has ended, or `None` if there is no such zone.
 fn first_left(board: &Board, t: Minute, event: &Event, zones: &[Zone]) -> Option<Zone>
     ensures { result ≡ find (was_left board.now.rows t event.now) zones.now }
 {
@@ -216,6 +236,9 @@ fn first_left(board: &Board, t: Minute, event: &Event, zones: &[Zone]) -> Option
     None
 }
 
+/// Returns `LeftBefore` with the first zone of the command in which `event` has a row whose end has
+/// come by the command's minute and that no line has ended, or `None` if there is no such zone.
+/// `event` is the open event that the command joins; without one the result is `None`.
 fn left_in(board: &Board, command: &Command, event: Option<Event>) -> Option<NoticeRefusal>
     ensures { result ≡ left_in board.now.rows command.now event }
 {
@@ -226,8 +249,9 @@ fn left_in(board: &Board, command: &Command, event: Option<Event>) -> Option<Not
     }
 }
 
-/// LeftBefore: a join in a zone with a row whose end has come and that no line has ended. Names the
-/// first.
+/// Returns `LeftBefore` if the command joins zones to an open event and one of them has a row of it
+/// whose end has come by the command's minute and that no line has ended, or `None` otherwise. It
+/// names the first such zone.
 fn left_before(board: &Board, command: &Command) -> Option<NoticeRefusal>
     ensures { result ≡ left_before board.now.rows command.now command.now.deed }
 {
@@ -237,7 +261,8 @@ fn left_before(board: &Board, command: &Command) -> Option<NoticeRefusal>
     }
 }
 
-/// Whether the event has no open row in the zone.
+/// Whether the event has no row in the zone that is open at minute `t`: none, one that a line has
+/// ended, or one whose end is more than half an hour past.
 fn is_gone(board: &Board, t: Minute, event: &Event, zone: &Zone) -> bool
     ensures { result ≡ is_gone board.now.rows t event.now zone.now }
 {
@@ -247,7 +272,9 @@ fn is_gone(board: &Board, t: Minute, event: &Event, zone: &Zone) -> bool
     }
 }
 
-/// Returns the first zone for which `is_gone` holds.
+/// Returns the first of `zones` in which the event has no row that is open at minute `t`, or `None`
+/// if there is no such zone. A row is open if no line has ended it and its end is at most half an
+/// hour past.
 fn first_gone(board: &Board, t: Minute, event: &Event, zones: &[Zone]) -> Option<Zone>
     ensures { result ≡ find (is_gone board.now.rows t event.now) zones.now }
 {
@@ -259,6 +286,10 @@ fn first_gone(board: &Board, t: Minute, event: &Event, zones: &[Zone]) -> Option
     None
 }
 
+/// Returns `NotLive` with the first zone of the command in which `event` has no open row, or `None`
+/// if there is no such zone. A row is open if no line has ended it and its end is at most half an
+/// hour before the command's minute. `event` is the open event that the command ends; without one
+/// the result is `None`.
 fn gone_in(board: &Board, command: &Command, event: Option<Event>) -> Option<NoticeRefusal>
     ensures { result ≡ gone_in board.now.rows command.now event }
 {
@@ -269,7 +300,9 @@ fn gone_in(board: &Board, command: &Command, event: Option<Event>) -> Option<Not
     }
 }
 
-/// NotLive: an end in a zone without an open row. Names the first.
+/// Returns `NotLive` if the command ends an open event and one of its zones has no open row of it,
+/// or `None` otherwise. It names the first such zone. A row is open if no line has ended it and its
+/// end is at most half an hour before the command's minute.
 fn not_live(board: &Board, command: &Command) -> Option<NoticeRefusal>
     ensures { result ≡ not_live board.now.rows command.now command.now.deed }
 {
@@ -279,7 +312,9 @@ fn not_live(board: &Board, command: &Command) -> Option<NoticeRefusal>
     }
 }
 
-/// Returns the first broken rule among those that look at the rows.
+/// Returns the refusal for the first rule that the command breaks because of the rows, of
+/// NumberUsed, NumberHeld, NoWatch, LeftBefore, NotLive, in this order, or `None` if it breaks none
+/// of them.
 #[tactic(auto, unfolding(crate::specs::Commands::broken_by_rows))]
 fn broken_by_rows(board: &Board, command: &Command) -> Option<NoticeRefusal>
     requires { IsConsistent board.now.rows command.now.at }
@@ -304,8 +339,10 @@ fn broken_by_rows(board: &Board, command: &Command) -> Option<NoticeRefusal>
     not_live(board, command)
 }
 
-/// Returns the first rule that the command breaks, apart from TooLong. `last` is the minute of the
-/// last accepted command, 0 before the first.
+/// Returns the refusal for the first rule that the command breaks, apart from TooLong, which needs
+/// the notice, or `None` if there is none. The rules come in the order TimeOut, TimeBack, BadZones,
+/// NotCounty, BadEnd, NumberUsed, NumberHeld, NoWatch, LeftBefore, NotLive. `last` is the minute of
+/// the last accepted command, 0 before the first.
 ///
 /// Source: docs/NOTICES.md, "Refusals"; docs/DECISIONS.md, "County notices".
 pub fn broken(board: &Board, last: Minute, command: &Command) -> Option<NoticeRefusal>

@@ -13,7 +13,9 @@ use program_ends::{End, end_at_once, run_lines};
 use program_outside::Program;
 use std::alloc::Global;
 
-/// Answers each line of an input of at most `limit` bytes with its notice or its refusal.
+/// Writes for each line of the input, one command a line, its notice or its refusal, and nothing
+/// for an empty line. Returns the exit status: 0, or that of the fault that ended the run, whose
+/// line is written last. `limit` is the most bytes of the input.
 fn answer_lines<S: Source, K: Sink>(
     alloc: Global,
     issuer: Issuer,

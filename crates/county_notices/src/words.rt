@@ -8,7 +8,8 @@ use crate::issuer::Issuer;
 use hazard_types::{List, LocalZone, Text};
 use program_ends::office_of;
 
-/// Returns the zone of local times that a word names.
+/// Returns the zone of local times with this name, `Atlantic`, `Eastern`, `Central`, `Mountain`,
+/// `Arizona`, `Pacific`, `Alaska`, `Hawaii` or `UTC`, or `None` for another word.
 fn local_zone_in(word: &[u8]) -> Option<LocalZone>
     ensures { result ≡ local_zone_in word.now }
 {
@@ -35,7 +36,8 @@ fn local_zone_in(word: &[u8]) -> Option<LocalZone>
     }
 }
 
-/// Parses the words `OFFICE ZONE`; `None` if they are not exactly these two.
+/// Returns the issuer that the words `OFFICE ZONE` of a command line name, or `None` if they are
+/// not exactly an office, as `KLWX`, and a zone of local times, as `Eastern`.
 #[tactic(auto, unfolding(crate::specs::Words::parse_issuer))]
 pub fn parse_issuer(words: &List<Text>) -> Option<Issuer>
     ensures value { result ≡ parse_issuer words.now }

@@ -15,8 +15,8 @@ use Rattle.desk_clock.specs.declared.reading.LocalFault.TheVariants.{NoLocalTime
 use Rattle.desk_clock.specs.Abbreviations.{hours_behind}
 use Rattle.desk_clock.specs.LocalForm.{IsForm, ReadsAs, LacksAbbreviation, HasDate, written_in, of_written, minute_of, minute_by, or_no_time, read_of}
 use Rattle.desk_clock.specs.LocalTimes.{local_time, shown_at, local_minutes, minute_shown, minute_behind, in_2000, is_last_of_1999, has_date}
-use Rattle.desk_clock.specs.LocalWords.{parse_words, parse_date, parse_year, parse_time_of_day, number_of, are_letters}
-use Rattle.desk_clock.specs.Names.{place_of, month_names, weekday_names}
+use Rattle.desk_clock.specs.LocalWords.{parse_words, parse_date, parse_year, parse_time_of_day, parse_number, are_letters}
+use Rattle.desk_clock.specs.Names.{find_name, month_names, weekday_names}
 use Rattle.std.specs.Option.{is_some}
 use Rattle.desk_clock.specs.Words.{first_word, after_word, after_aside}
 use Rattle.desk_clock.proofs.Cutting.{split, is_word, some_before, some_aside, is_aside}
@@ -36,11 +36,11 @@ module _ {A : Type 0} where
 
 no_year : (letters month day : List ℕ) (time : ℕ × ℕ) → parse_date letters month day [] time ≡ None
 unfolding parse_date parse_year
-no_year letters month day time = always_none {A = ℕ} _ (place_of month_names month) (λ m. always_none {A = ℕ} _ (number_of day) (λ d. refl))
+no_year letters month day time = always_none {A = ℕ} _ (find_name month_names month) (λ m. always_none {A = ℕ} _ (parse_number day) (λ d. refl))
 
 no_words : (clock half letters weekday month day : List ℕ) → parse_words clock half letters weekday month day [] ≡ None
 unfolding parse_words
-no_words clock half letters weekday month day = guarded (are_letters letters && is_some (place_of weekday_names weekday)) _ (always_none {A = ℕ × ℕ} _ (parse_time_of_day clock half) (λ time. no_year letters month day time))
+no_words clock half letters weekday month day = guarded (are_letters letters && is_some (find_name weekday_names weekday)) _ (always_none {A = ℕ × ℕ} _ (parse_time_of_day clock half) (λ time. no_year letters month day time))
 
 year_there : (clock half letters weekday month day year : List ℕ) (w : Written) → parse_words clock half letters weekday month day year ≡ Some w → year ≢ []
 year_there clock half letters weekday month day year w h e =

@@ -13,7 +13,7 @@ use Rattle.desk_clock.specs.declared.local_times.LocalTime.{LocalTime}
 use Rattle.desk_clock.specs.declared.reading.Written.{Written}
 use Rattle.desk_clock.specs.Abbreviations.{letters_of, hours_behind}
 use Rattle.desk_clock.specs.LocalForm.{IsForm, minute_of, read_of}
-use Rattle.desk_clock.specs.LocalText.{one_or_two, clock_hour, half_day, short_of, line_of, local_line_of}
+use Rattle.desk_clock.specs.LocalText.{one_or_two, clock_hour, half_day, local_line_without_year, line_of, local_line_of}
 use Rattle.hazard_types.specs.Calendar.{two}
 use Rattle.hazard_types.specs.Digits.{four_digits}
 use Rattle.desk_clock.specs.LocalTimes.{local_time, shown_at, local_minutes, minute_shown, minute_behind, in_2000, from_2000, on_last_day_of_1999, IsShown}
@@ -87,7 +87,7 @@ words_back a day t is =
     (λ i. Some (record { abbreviation = Some a; time = record { year = t.year; month = number i; day = t.day; hour = t.hour; minute = t.minute } }))
 
 form_of : (a : Abbreviation) (shown : ℕ) → IsShown (local_time shown) → IsForm (line_of a shown) (said a (local_time shown))
-unfolding line_of short_of
+unfolding line_of local_line_without_year
 form_of a shown is =
     let t = local_time shown in
     let clock : List ℕ = one_or_two (clock_hour t.hour) ++ two t.minute [] in

@@ -9,36 +9,36 @@ use Rattle.desk_clock.specs.Abbreviations.{letters_of}
 use Rattle.desk_clock.specs.LocalText.{one_or_two, clock_hour, half_day}
 use Rattle.hazard_types.specs.Calendar.{two}
 use Rattle.hazard_types.specs.Digits.{four_digits}
-use Rattle.desk_clock.specs.LocalWords.{digit, number_of, half_of, time_of, parse_time_of_day, parse_year, are_letters}
-use Rattle.desk_clock.specs.Names.{month_names, weekday_names, abbreviations, parse_abbreviation, place_of}
+use Rattle.desk_clock.specs.LocalWords.{digit, parse_number, parse_half_day, time_of, parse_time_of_day, parse_year, are_letters}
+use Rattle.desk_clock.specs.Names.{month_names, weekday_names, abbreviations, parse_abbreviation, find_name}
 use Rattle.desk_clock.specs.Words.{begins_with}
 use Rattle.hazard_types.specs.Characters.{is_blank}
 
 digit_of : (k : ℕ) → k ≤ 9 → digit (48 + k) ≡ Some k
 digit_of k h = grind (arith, nat_tests)
 
-number_one : (k : ℕ) → k ≤ 9 → number_of ((48 + k) ∷ []) ≡ Some k
-unfolding number_of
+number_one : (k : ℕ) → k ≤ 9 → parse_number ((48 + k) ∷ []) ≡ Some k
+unfolding parse_number
 number_one k h = digit_of k h
 
-number_two : (n tens ones : ℕ) → tens ≤ 9 → ones ≤ 9 → n ≡ 10 * tens + ones → number_of ((48 + tens) ∷ (48 + ones) ∷ []) ≡ Some n
-unfolding number_of
+number_two : (n tens ones : ℕ) → tens ≤ 9 → ones ≤ 9 → n ≡ 10 * tens + ones → parse_number ((48 + tens) ∷ (48 + ones) ∷ []) ≡ Some n
+unfolding parse_number
 number_two n tens ones h k e = rw (digit_of tens h, digit_of ones k) (ap (λ (x : ℕ). Some x) (sym e))
 
-am : half_of (codes "AM") ≡ Some 0
-unfolding half_of
+am : parse_half_day (codes "AM") ≡ Some 0
+unfolding parse_half_day
 am = refl
 
-pm : half_of (codes "PM") ≡ Some 12
-unfolding half_of
+pm : parse_half_day (codes "PM") ≡ Some 12
+unfolding parse_half_day
 pm = refl
 
 pub half_begin : ℕ → ℕ
 half_begin hour = cond (nat_lt hour 12) 0 12
 
-half_said : (hour : ℕ) → half_of (half_day hour) ≡ Some (half_begin hour)
+half_said : (hour : ℕ) → parse_half_day (half_day hour) ≡ Some (half_begin hour)
 unfolding half_begin
-half_said hour = elim (nat_lt hour 12) as (λ b. half_of (cond b (codes "AM") (codes "PM")) ≡ Some (cond b 0 12)) [ true ↦ am | false ↦ pm ]
+half_said hour = elim (nat_lt hour 12) as (λ b. parse_half_day (cond b (codes "AM") (codes "PM")) ≡ Some (cond b 0 12)) [ true ↦ am | false ↦ pm ]
 
 time_back : (hour minute : ℕ) → hour < 24 → minute < 60 → time_of (clock_hour hour) minute (half_begin hour) ≡ Some (hour, minute)
 unfolding half_begin
@@ -60,7 +60,7 @@ clock_said hour minute h n =
       | inr le ↦ rw (le-ltb (clock_hour hour) 10 le, number_two (clock_hour hour) (clock_hour hour / 10) (clock_hour hour % 10) (omega arith) (omega arith) (omega arith), minutes, half_said hour) (time_back hour minute h n)
     ]
 
-pub day_number_said : (d : ℕ) → d < 100 → number_of (one_or_two d) ≡ Some d
+pub day_number_said : (d : ℕ) → d < 100 → parse_number (one_or_two d) ≡ Some d
 day_number_said d h =
     elim (cases_lt d 10) [
       | inl lt ↦ rw (lt-ltb d 10 lt) (number_one d (omega arith))
@@ -141,7 +141,7 @@ letters_begin Gmt rest = refl
 
 -- the name of a month is found at its place, has no blank, and begins with none
 pub record IsName (names : List (List ℕ)) (place : ℕ) : Type 0 where
-  pub found : place_of names (get_or names place []) ≡ Some place
+  pub found : find_name names (get_or names place []) ≡ Some place
   pub unbroken : list_any is_blank (get_or names place []) ≡ false
   pub begins : (rest : List ℕ) → begins_with is_blank (get_or names place [] ++ rest) ≡ false
   pub no_slash : (rest : List ℕ) → begins_with (λ c. c == 47) (get_or names place [] ++ rest) ≡ false

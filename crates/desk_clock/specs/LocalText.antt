@@ -21,19 +21,19 @@ abbrev pub half_day : ℕ → List ℕ
 half_day hour = if nat_lt hour 12 then codes "AM" else codes "PM"
 
 -- hour and minute, half of the day, abbreviation, weekday, month and day, of what the clock shows
-unfoldable pub short_of : Abbreviation → ℕ → List ℕ
-short_of a shown =
+unfoldable pub local_line_without_year : Abbreviation → ℕ → List ℕ
+local_line_without_year a shown =
     let t = local_time shown in
     one_or_two (clock_hour t.hour) ++ two t.minute (codes " ") ++ half_day t.hour ++ codes " " ++ letters_of a ++ codes " "
     ++ weekday_name (shown / 1440) ++ codes " " ++ month_name t.month ++ codes " " ++ one_or_two t.day
 
 -- the same with the year
 unfoldable pub line_of : Abbreviation → ℕ → List ℕ
-line_of a shown = short_of a shown ++ (32 ∷ four_digits (local_time shown).year)
+line_of a shown = local_line_without_year a shown ++ (32 ∷ four_digits (local_time shown).year)
 
 -- by the abbreviation's clock in that minute
 unfoldable pub local_short_of : LocalZone → ℕ → List ℕ
-local_short_of z m = let a = abbreviation_at z m in short_of a (shown_at a m)
+local_short_of z m = let a = abbreviation_at z m in local_line_without_year a (shown_at a m)
 
 unfoldable pub local_line_of : LocalZone → ℕ → List ℕ
 local_line_of z m = let a = abbreviation_at z m in line_of a (shown_at a m)

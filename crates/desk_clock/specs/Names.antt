@@ -27,8 +27,8 @@ abbrev pub same_letters : List ℕ → List ℕ → Bool
 same_letters = str_eq_ignore_ascii_case
 
 -- the place of a name among these
-abbrev pub place_of : List (List ℕ) → List ℕ → Option ℕ
-place_of names word = position (λ (name : List ℕ). same_letters word name) names
+abbrev pub find_name : List (List ℕ) → List ℕ → Option ℕ
+find_name names word = position (λ (name : List ℕ). same_letters word name) names
 
 -- the abbreviation with these letters
 abbrev pub parse_abbreviation : List ℕ → Option Abbreviation

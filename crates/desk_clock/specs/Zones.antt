@@ -25,10 +25,10 @@ abbrev pub rule_text : LocalZone → List ℕ
 rule_text z = (time_of z).0
 
 abbrev pub standard : LocalZone → Abbreviation
-standard z = (time_of z).1.0
+standard z = (time_of z).1
 
 abbrev pub daylight : LocalZone → Option Abbreviation
-daylight z = (time_of z).1.1
+daylight z = (time_of z).2
 
 -- how far the zone's clock is ahead of UTC in a minute, in seconds; the instant is in nanoseconds from 1970
 unfoldable pub offset_of : LocalZone → ℕ → ℤ

@@ -23,7 +23,7 @@ pub enum Abbreviation {
 }
 
 impl Abbreviation {
-    /// Returns its capital letters, as `AKST`.
+    /// Returns the capital letters of the abbreviation, as `AKST`.
     pub fn letters(self) -> &'static [u8]
         ensures { result.now ≡ letters_of self }
     {
@@ -45,7 +45,7 @@ impl Abbreviation {
         }
     }
 
-    /// Returns how many hours its clock is behind UTC, 0 to 10.
+    /// Returns how many hours a clock of the abbreviation is behind UTC, 0 to 10.
     pub fn hours_behind(self) -> u8
         ensures value { result ≡ hours_behind self }
         ensures range { result ≤ 10 }

@@ -53,7 +53,7 @@ pub fn resolve_day_stamp(issue: Minute, d: DayStamp) -> Option<Minute>
 /// `d`.
 ///
 /// Source: docs/LIBRARY.md, "The text of a product" (`IssueDisagrees`).
-pub fn near(issue: Minute, d: DayStamp) -> bool
+pub fn has_near_day_stamp(issue: Minute, d: DayStamp) -> bool
     ensures { IsTrue result ↔ IsNear issue d }
 {
     let from = match Minute::new(issue.get().saturating_sub(REACH)) {

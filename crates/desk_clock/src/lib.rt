@@ -2,7 +2,7 @@
 //! ways.
 //!
 //! For crates that read or write the texts of products. One begins with `local_line`,
-//! `read_local_line` and `near`.
+//! `read_local_line` and `has_near_day_stamp`.
 #![tactic(auto)]
 
 mod abbreviations;
@@ -15,7 +15,7 @@ mod words;
 mod zones;
 
 pub use abbreviations::Abbreviation;
-pub use day_stamps::{day_stamp, near, resolve_day_stamp};
+pub use day_stamps::{day_stamp, has_near_day_stamp, resolve_day_stamp};
 pub use local_lines::{local_line, local_short};
 pub use local_times::calendars_agree;
 pub use reading::{LocalFault, lines_read_back, read_local_line};

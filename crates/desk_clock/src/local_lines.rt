@@ -2,9 +2,7 @@
 ghost use Rattle.std.specs.Prelude.{◌≡◌, ◌<◌, ◌≤◌, ◌+◌, ◌-◌, ◌*◌, ◌++◌, IfOk, OnOk};
 ghost use Rattle.desk_clock.specs.Abbreviations.{hours_behind};
 ghost use Rattle.desk_clock.specs.LocalTimes.{shown_at};
-ghost use Rattle.desk_clock.specs.LocalText.{one_or_two, clock_hour, half_day, short_of, line_of, local_short_of, local_line_of};
-ghost use Rattle.hazard_types.specs.Calendar.{two};
-ghost use Rattle.hazard_types.specs.Digits.{four_digits};
+ghost use Rattle.desk_clock.specs.LocalText.{one_or_two, clock_hour, half_day, local_line_without_year, line_of, local_short_of, local_line_of};
 
 use crate::abbreviations::Abbreviation;
 use crate::local_times::{local_time, weekday};
@@ -13,7 +11,7 @@ use crate::zones::abbreviation_at;
 use hazard_types::{LocalZone, Minute, Oom, Text};
 use std::alloc::Global;
 
-/// Appends a number below 100 without a leading zero.
+/// Appends `n`, which is below 100, in decimal digits without a leading zero.
 fn push_number(text: &mut Text, n: u8) -> Result<(), Oom>
     requires { n < 100 }
     ensures { OnOk result (text.new ≡ text.old ++ one_or_two n) }
@@ -25,7 +23,8 @@ fn push_number(text: &mut Text, n: u8) -> Result<(), Oom>
     }
 }
 
-/// Returns the hour on a clock of twelve hours, on which 0 and 12 are 12.
+/// Returns the hour that a clock of twelve hours shows, 1 to 12, at the hour of the day `hour`, 0
+/// to 23: 12 for 0 and for 12.
 fn clock_hour(hour: u8) -> u8
     ensures value { result ≡ clock_hour hour }
     ensures range { result ≤ 12 }
@@ -36,14 +35,15 @@ fn clock_hour(hour: u8) -> u8
     }
 }
 
-/// Returns `AM` before hour 12, else `PM`.
+/// Returns `AM` for an hour of the day before 12, else `PM`.
 fn half_day(hour: u8) -> &'static [u8]
     ensures { result.now ≡ half_day hour }
 {
     if hour < 12 { b"AM" } else { b"PM" }
 }
 
-/// Returns what a clock of `a` shows at `m`, in minutes since 1999-12-31T00:00 on that clock.
+/// Returns the local time at `m` on a clock of abbreviation `a`, in minutes since 1999-12-31T00:00
+/// on that clock.
 fn shown_at(a: Abbreviation, m: Minute) -> u32
     ensures value { result ≡ shown_at a m }
     ensures range { result < 52597440 }
@@ -51,12 +51,12 @@ fn shown_at(a: Abbreviation, m: Minute) -> u32
     m.get() + 1440 - 60 * u32::from(a.hours_behind())
 }
 
-/// Returns the local line without its year. `shown` is in minutes since 1999-12-31T00:00 local
-/// time.
-#[tactic(auto, unfolding(crate::specs::LocalText::short_of))]
-fn short_of(alloc: Global, a: Abbreviation, shown: u32) -> Result<Text, Oom>
+/// Returns the local line without its year, as `1030 AM EST Wed Jan 3`. `a` is the abbreviation
+/// that it has, and `shown` its local time in minutes since 1999-12-31T00:00 on that clock.
+#[tactic(auto, unfolding(crate::specs::LocalText::local_line_without_year))]
+fn local_line_without_year(alloc: Global, a: Abbreviation, shown: u32) -> Result<Text, Oom>
     requires { shown < 52597440 }
-    ensures { IfOk result (λ text. text ≡ short_of a shown) }
+    ensures { IfOk result (λ text. text ≡ local_line_without_year a shown) }
 {
     let t = local_time(shown);
     let mut text = Text::new(alloc);
@@ -88,7 +88,7 @@ pub fn local_line(alloc: Global, z: LocalZone, m: Minute) -> Result<Text, Oom>
 {
     let a = abbreviation_at(z, m);
     let shown = shown_at(a, m);
-    let mut text = short_of(alloc, a, shown)?;
+    let mut text = local_line_without_year(alloc, a, shown)?;
     let year = local_time(shown).year;
     text.extend(&[
         b' ',
@@ -110,5 +110,5 @@ pub fn local_short(alloc: Global, z: LocalZone, m: Minute) -> Result<Text, Oom>
     ensures { IfOk result (λ text. text ≡ local_short_of z m) }
 {
     let a = abbreviation_at(z, m);
-    short_of(alloc, a, shown_at(a, m))
+    local_line_without_year(alloc, a, shown_at(a, m))
 }

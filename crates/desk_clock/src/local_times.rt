@@ -25,15 +25,16 @@ pub struct LocalTime {
 /// The days from the first day of jiff's calendar to 1999-12-31.
 const FIRST: u32 = 4_382_543;
 
-/// The day numbers of `jiff` are those of the calendar of `hazard_types`: 2000-01-01, its day 0, is
-/// day 10957 of `jiff`.
+/// The number that `jiff` gives a day of 2000 to 2099 is 10957 more than its number in the calendar
+/// of `hazard_types`: 2000-01-01 is day 10957 of `jiff` and day 0 there.
 pub fn calendars_agree()
     ensures { (c : Civil) →
         IsCivil c →
         days_from_civil (pos (2000 + c.year)) c.month c.day ≡ pos (10957 + minute_of c / 1440) }
 {}
 
-/// Returns the date and time of day `shown` minutes after 1999-12-31T00:00, both local.
+/// Returns the date and time of day that a local clock shows `shown` minutes after it showed
+/// 1999-12-31T00:00, without a change to or from daylight time.
 pub fn local_time(shown: u32) -> LocalTime
     requires { shown < 52597440 }
     ensures value { result ≡ local_time shown }
@@ -49,7 +50,8 @@ pub fn local_time(shown: u32) -> LocalTime
     }
 }
 
-/// Returns the weekday `shown` minutes after 1999-12-31T00:00, both local.
+/// Returns the weekday that a local clock shows `shown` minutes after it showed 1999-12-31T00:00,
+/// without a change to or from daylight time.
 pub fn weekday(shown: u32) -> Weekday
     requires { shown < 52597440 }
     ensures { monday_zero result ≡ (shown / 1440 + 4) % 7 }
@@ -57,7 +59,7 @@ pub fn weekday(shown: u32) -> Weekday
     Date::from_days_since_min(FIRST + shown / 1440).weekday()
 }
 
-/// Returns the date of `t`, if it exists and its year is 1999 to 2099.
+/// Returns the date of `t`, or `None` if it does not exist or its year is not 1999 to 2099.
 #[tactic(auto, unfolding(crate::specs::LocalTimes::has_date))]
 fn date_of(t: LocalTime) -> Option<Date>
     ensures test { is_some result ≡ has_date t }
@@ -74,8 +76,8 @@ fn date_of(t: LocalTime) -> Option<Date>
     }
 }
 
-/// Returns the days from 1999-12-31 to a date; `None` before that day.
-fn days_to(date: Date) -> Option<u32>
+/// Returns the number of days from 1999-12-31 to a date, or `None` if the date is before that day.
+fn days_since_last_of_1999(date: Date) -> Option<u32>
     ensures { MatchOption result (epoch_day date <ℤ pos 10956)
         (λ days. epoch_day date ≡ pos (10956 + days)) }
 {
@@ -89,8 +91,8 @@ pub fn has_date(t: LocalTime) -> bool
     date_of(t).is_some()
 }
 
-/// Returns the minutes from 1999-12-31T00:00 to `t`, both local; `None` if `t` does not exist or is
-/// earlier.
+/// Returns the minutes from 1999-12-31T00:00 to `t` on one local clock, without a change to or from
+/// daylight time. `None` if `t` does not exist, is earlier, or is after the year 2099.
 fn local_minutes(t: LocalTime) -> Option<u32>
     ensures value { result ≡ local_minutes t }
     ensures range { IfSome result (λ shown. shown < 52597440) }
@@ -99,12 +101,12 @@ fn local_minutes(t: LocalTime) -> Option<u32>
         return None;
     }
     let date = date_of(t)?;
-    let days = days_to(date)?;
+    let days = days_since_last_of_1999(date)?;
     Some(days * 1440 + u32::from(t.hour) * 60 + u32::from(t.minute))
 }
 
-/// Returns the minute at which a clock of `a` shows `t`. `None` if `t` does not exist, or if the
-/// minute is not in the years 2000 to 2099 of UTC.
+/// Returns the minute, in UTC, at which a clock of the abbreviation `a` shows the date and time
+/// `t`. `None` if `t` does not exist, or if the minute is not in the years 2000 to 2099 of UTC.
 #[tactic(auto, unfolding(crate::specs::LocalTimes::minute_shown))]
 pub fn minute_shown(a: Abbreviation, t: LocalTime) -> Option<Minute>
     ensures { result ≡ minute_shown a t }

@@ -2,12 +2,12 @@
 ghost use Rattle.std.specs.Prelude.{◌≡◌, ◌≤◌, ◌<◌, [], length, slice_index_or, IfSome};
 ghost use Rattle.std.specs.Option.{is_some};
 ghost use Rattle.jiff_core.specs.Weekday.{monday_zero};
-ghost use Rattle.desk_clock.specs.Abbreviations.{letters_of};
-ghost use Rattle.desk_clock.specs.Names.{month_names, weekday_names, abbreviations, month_name, weekday_name, same_letters, place_of, parse_abbreviation};
+ghost use Rattle.desk_clock.specs.Names.{month_names, weekday_names, abbreviations, month_name, weekday_name, same_letters, find_name, parse_abbreviation};
 
 use crate::abbreviations::Abbreviation;
 use jiff_core::civil::Weekday;
 
+/// Returns the abbreviations of the months, from January, as local lines write them.
 #[tactic(auto, unfolding(crate::specs::Names::month_names))]
 fn month_names() -> [[u8; 3]; 12]
     ensures { result ≡ month_names }
@@ -18,6 +18,7 @@ fn month_names() -> [[u8; 3]; 12]
     ]
 }
 
+/// Returns the abbreviations of the weekdays, from Monday, as local lines write them.
 #[tactic(auto, unfolding(crate::specs::Names::weekday_names))]
 fn weekday_names() -> [[u8; 3]; 7]
     ensures { result ≡ weekday_names }
@@ -27,6 +28,7 @@ fn weekday_names() -> [[u8; 3]; 7]
     ]
 }
 
+/// Returns all abbreviations that a local line may have.
 #[tactic(auto, unfolding(crate::specs::Names::abbreviations))]
 fn abbreviations() -> [Abbreviation; 14]
     ensures { result ≡ abbreviations }
@@ -76,31 +78,33 @@ pub fn same_letters(word: &[u8], name: &[u8]) -> bool
     word.eq_ignore_ascii_case(name)
 }
 
-/// Returns the index of a name in `names`, whatever its letter case.
-fn place_of(names: &[[u8; 3]], word: &[u8]) -> Option<usize>
-    ensures value { result ≡ place_of names.now word.now }
+/// Returns the index in `names` of the first name equal to `word` but for letter case, or `None` if
+/// there is none.
+fn find_name(names: &[[u8; 3]], word: &[u8]) -> Option<usize>
+    ensures value { result ≡ find_name names.now word.now }
     ensures range { IfSome result (λ i. i < length names.now) }
 {
     names.iter().position(|name| same_letters(word, name))
 }
 
-/// Returns the index of the month that a word names, 0 for `Jan`, whatever its letter case.
+/// Returns the index of the month that a word names, 0 for `Jan`, whatever its letter case, or
+/// `None` if there is none.
 #[tactic(auto, using(crate::proofs::Tables::twelve_names))]
 pub fn month_index(word: &[u8]) -> Option<usize>
-    ensures value { result ≡ place_of month_names word.now }
+    ensures value { result ≡ find_name month_names word.now }
     ensures range { IfSome result (λ i. i < 12) }
 {
-    place_of(&month_names(), word)
+    find_name(&month_names(), word)
 }
 
 /// Whether a word names a weekday, as `Mon`, whatever its letter case.
 pub fn is_weekday(word: &[u8]) -> bool
-    ensures { result ≡ is_some (place_of weekday_names word.now) }
+    ensures { result ≡ is_some (find_name weekday_names word.now) }
 {
-    place_of(&weekday_names(), word).is_some()
+    find_name(&weekday_names(), word).is_some()
 }
 
-/// Returns the abbreviation with these letters, whatever their case.
+/// Returns the abbreviation with these letters, whatever their case, or `None` if there is none.
 pub fn parse_abbreviation(word: &[u8]) -> Option<Abbreviation>
     ensures { result ≡ parse_abbreviation word.now }
 {

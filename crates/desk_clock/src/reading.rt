@@ -4,7 +4,7 @@ ghost use Rattle.hazard_types.specs.declared.codes.LocalZone.{LocalZone as Zone}
 ghost use Rattle.desk_clock.specs.LocalText.{local_line_of};
 ghost use Rattle.std.specs.List.{list_all};
 ghost use Rattle.std.specs.Char.{is_ascii_alphabetic};
-ghost use Rattle.desk_clock.specs.LocalWords.{digit, number_of, half_of, parse_time_of_day, parse_year, parse_date, parse_words, are_letters};
+ghost use Rattle.desk_clock.specs.LocalWords.{digit, parse_number, parse_half_day, parse_time_of_day, parse_year, parse_date, parse_words, are_letters};
 ghost use Rattle.desk_clock.specs.LocalForm.{written_in, minute_of, read_of, ReadsAs, LacksAbbreviation};
 
 use crate::abbreviations::Abbreviation;
@@ -32,6 +32,7 @@ pub struct Written {
     pub time: LocalTime,
 }
 
+/// Returns the value of an ASCII decimal digit, 0 to 9, or `None` if the character is none.
 fn digit(c: u8) -> Option<u8>
     ensures { result ≡ digit c }
 {
@@ -42,10 +43,11 @@ fn digit(c: u8) -> Option<u8>
     }
 }
 
-/// Returns the number of one or two digits.
-#[tactic(auto, unfolding(crate::specs::LocalWords::number_of))]
-fn number_of(word: &[u8]) -> Option<u8>
-    ensures { result ≡ number_of word.now }
+/// Returns the number that a word of one or two decimal digits writes, or `None` for any other
+/// word.
+#[tactic(auto, unfolding(crate::specs::LocalWords::parse_number))]
+fn parse_number(word: &[u8]) -> Option<u8>
+    ensures { result ≡ parse_number word.now }
 {
     match word {
         [ones] => digit(*ones),
@@ -54,10 +56,11 @@ fn number_of(word: &[u8]) -> Option<u8>
     }
 }
 
-/// Returns the hour at which a half of the day begins: 0 for `AM`, 12 for `PM`.
-#[tactic(auto, unfolding(crate::specs::LocalWords::half_of))]
-fn half_of(word: &[u8]) -> Option<u8>
-    ensures value { result ≡ half_of word.now }
+/// Returns the hour at which a half of the day begins: 0 for `AM`, 12 for `PM`, in any letter case.
+/// `None` for any other word.
+#[tactic(auto, unfolding(crate::specs::LocalWords::parse_half_day))]
+fn parse_half_day(word: &[u8]) -> Option<u8>
+    ensures value { result ≡ parse_half_day word.now }
     ensures range { IfSome result (λ h. h ≤ 12) }
 {
     if same_letters(word, b"AM") {
@@ -69,15 +72,17 @@ fn half_of(word: &[u8]) -> Option<u8>
     }
 }
 
-/// Returns the hour (0 to 23) and the minute of `1030` or `930` and `AM` or `PM`.
+/// Returns the hour (0 to 23) and the minute that `clock`, as `1030` or `930`, and `half`, `AM` or
+/// `PM`, write. `None` if a word has another form, the written hour is not 1 to 12, or the minute
+/// is above 59.
 #[tactic(auto, unfolding(crate::specs::LocalWords::parse_time_of_day))]
 fn parse_time_of_day(clock: &[u8], half: &[u8]) -> Option<(u8, u8)>
     ensures { result ≡ parse_time_of_day clock.now half.now }
 {
     let at = clock.len().saturating_sub(2);
-    let hour = number_of(&clock[..at])?;
-    let minute = number_of(&clock[at..])?;
-    let half = half_of(half)?;
+    let hour = parse_number(&clock[..at])?;
+    let minute = parse_number(&clock[at..])?;
+    let half = parse_half_day(half)?;
     if 1 <= hour && hour <= 12 && minute < 60 {
         Some((hour % 12 + half, minute))
     } else {
@@ -85,7 +90,8 @@ fn parse_time_of_day(clock: &[u8], half: &[u8]) -> Option<(u8, u8)>
     }
 }
 
-/// Returns the number of four digits.
+/// Returns the number that a word of exactly four decimal digits writes, or `None` for any other
+/// word.
 #[tactic(auto, unfolding(crate::specs::LocalWords::parse_year))]
 fn parse_year(word: &[u8]) -> Option<u16>
     ensures { result ≡ parse_year word.now }
@@ -93,13 +99,14 @@ fn parse_year(word: &[u8]) -> Option<u16>
     if word.len() != 4 {
         return None;
     }
-    let century = number_of(&word[..2])?;
-    let year = number_of(&word[2..])?;
+    let century = parse_number(&word[..2])?;
+    let year = parse_number(&word[2..])?;
     Some(100 * u16::from(century) + u16::from(year))
 }
 
-/// Returns the values of a line, from its abbreviation, the words of its date, and its hour and
-/// minute.
+/// Returns the values of a local line, given the letters of its abbreviation, the words of its
+/// date, and `time`, its hour (0 to 23) and minute. `None` if the month is no name as `Jan`, the
+/// day is not one or two digits, or the year is not four. Whether the date exists is not tested.
 #[tactic(auto, unfolding(crate::specs::LocalWords::parse_date))]
 fn parse_date(
     letters: &[u8],
@@ -111,7 +118,7 @@ fn parse_date(
     ensures { result ≡ parse_date letters.now month.now day.now year.now time }
 {
     let place = month_index(month)?;
-    let day = number_of(day)?;
+    let day = parse_number(day)?;
     let year = parse_year(year)?;
     Some(Written {
         abbreviation: parse_abbreviation(letters),
@@ -125,7 +132,9 @@ fn parse_date(
     })
 }
 
-/// Returns the values of the seven words of a line, if each word has its form.
+/// Returns the values of a local line by its seven words: hour and minute as `1030`, `AM` or `PM`,
+/// the letters of the abbreviation, weekday, month, day and year. `None` if a word has a wrong
+/// form. Letters that are no known abbreviation are accepted, as is a date that does not exist.
 #[tactic(auto, unfolding(crate::specs::LocalWords::parse_words))]
 fn parse_words(
     clock: &[u8],
@@ -147,19 +156,22 @@ fn parse_words(
     }
 }
 
+/// Whether a word is not empty and has ASCII letters only.
 fn are_letters(word: &[u8]) -> bool
     ensures { result ≡ are_letters word.now }
 {
     !word.is_empty() && all_letters(word)
 }
 
+/// Whether each byte of a word is an ASCII letter; true for an empty word.
 fn all_letters(word: &[u8]) -> bool
     ensures { result ≡ list_all is_ascii_alphabetic word.now }
 {
     word.iter().all(|c| c.is_ascii_alphabetic())
 }
 
-/// Returns the values of a line, which is split into its seven words here.
+/// Returns the values of the local line `b`, or `None` if one of its seven words is missing or has
+/// a wrong form. A part between slashes before the weekday is skipped.
 #[tactic(auto, unfolding(crate::specs::LocalForm::written_in))]
 fn written_in(b: &[u8]) -> Option<Written>
     ensures { result ≡ written_in b.now }
@@ -180,7 +192,10 @@ fn written_in(b: &[u8]) -> Option<Written>
     )
 }
 
-/// Returns the minute of the values of a line.
+/// Returns the minute, in UTC, at which a clock of the abbreviation of `w` shows the date and time
+/// of `w`, the values of a local line. Errs with `UnknownAbbreviation` if only the abbreviation is
+/// unknown, and with `NoLocalTime` if the date does not exist or the minute is not in the years
+/// 2000 to 2099.
 #[tactic(auto, unfolding(crate::specs::LocalForm::minute_of))]
 fn minute_of(w: Written) -> Result<Minute, LocalFault>
     ensures { result ≡ minute_of w }
@@ -192,6 +207,9 @@ fn minute_of(w: Written) -> Result<Minute, LocalFault>
     }
 }
 
+/// Returns the minute, in UTC, that the local line `b` shows, as `1030 AM EST Wed Jan 3 2018`. Errs
+/// with `UnknownAbbreviation` if only the abbreviation is wrong, and with `NoLocalTime` if the form
+/// is wrong, the date does not exist, or the minute is not in the years 2000 to 2099.
 #[tactic(auto, unfolding(crate::specs::LocalForm::read_of))]
 fn reading_of(b: &[u8]) -> Result<Minute, LocalFault>
     ensures { result ≡ read_of b.now }
@@ -223,7 +241,8 @@ pub fn read_local_line(b: &[u8]) -> Result<Minute, LocalFault>
     reading_of(b)
 }
 
-/// What `local_line` writes reads back to its minute, in every zone.
+/// The line that `local_line` writes for a minute in any zone is read by `read_local_line` as that
+/// same minute.
 pub fn lines_read_back()
     ensures { (z : Zone) (m : ℕ) → m < 52596000 → read_of (local_line_of z m) ≡ Ok m }
 {}

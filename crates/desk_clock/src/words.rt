@@ -6,18 +6,21 @@ ghost use Rattle.hazard_types.specs.Characters.{is_blank};
 
 use hazard_types::is_blank;
 
+/// Returns the index of the first blank (space or tab) of `b`, or `None` if there is none.
 fn blank_at(b: &[u8]) -> Option<usize>
     ensures { result ≡ position is_blank b.now }
 {
     b.iter().position(|c| is_blank(*c))
 }
 
+/// Returns the index of the first byte that is no blank, or `None` if all are blanks.
 fn find_nonblank(b: &[u8]) -> Option<usize>
     ensures { result ≡ position (λ c. not (is_blank c)) b.now }
 {
     b.iter().position(|c| !is_blank(*c))
 }
 
+/// Returns the index of the first `/`, or `None` if there is none.
 fn slash_at(b: &[u8]) -> Option<usize>
     ensures { result ≡ position (λ c. c == 47) b.now }
 {
@@ -34,6 +37,8 @@ pub fn first_word(b: &[u8]) -> &[u8]
     }
 }
 
+/// Returns what follows the blanks at the start of `b`: all of `b` if it starts with none, and
+/// nothing if it has blanks only.
 fn past_blanks(b: &[u8]) -> &[u8]
     ensures { result.now ≡ past_blanks b.now }
 {
@@ -53,6 +58,8 @@ pub fn after_word(b: &[u8]) -> &[u8]
     }
 }
 
+/// Returns what follows the first `/` and the blanks after it; empty if there is no `/` or if no
+/// blank follows it.
 fn after_slash(b: &[u8]) -> &[u8]
     ensures { result.now ≡ after_slash b.now }
 {
@@ -72,8 +79,9 @@ fn past_gap(b: &[u8]) -> &[u8]
     }
 }
 
-/// Returns what follows an optional part between slashes and the blanks after it. Empty if such a
-/// part has no second slash, or if no blank follows that slash.
+/// Returns what follows a part between slashes at the start of `b` and the blanks after it, or all
+/// of `b` if it does not start with `/`. Empty if such a part has no second slash, or if no blank
+/// follows that slash.
 pub fn after_aside(b: &[u8]) -> &[u8]
     ensures { result.now ≡ after_aside b.now }
 {

@@ -1,5 +1,5 @@
 //! The time zones of offices: their rules, and the abbreviation of a minute.
-ghost use Rattle.std.specs.Prelude.{◌≡◌, ◌<◌, ℕ, ℤ, IsSome};
+ghost use Rattle.std.specs.Prelude.{◌≡◌, ◌<◌, ℤ, IsSome};
 ghost use Rattle.jiff.specs.Placed.{IsPosixZone};
 ghost use Rattle.jiff_tz.specs.PosixReader.{read_whole};
 ghost use Rattle.jiff_tz.specs.Zone.{offset_at as jiff_offset};
@@ -24,7 +24,8 @@ struct ZoneTime {
     daylight: Option<Abbreviation>,
 }
 
-/// Returns the time of a zone.
+/// Returns the POSIX rule of a zone, its abbreviation for standard time, and the one for daylight
+/// time if the zone has daylight time.
 ///
 /// Source: docs/SETTINGS.md, "Settings" (key `zone`).
 fn time_of(zone: LocalZone) -> ZoneTime
@@ -70,7 +71,8 @@ fn time_of(zone: LocalZone) -> ZoneTime
     }
 }
 
-/// Returns the offset from UTC of a POSIX rule at an instant, in seconds.
+/// Returns how far a clock with the POSIX rule `text` is ahead of UTC at an instant, in seconds:
+/// negative west of Greenwich. 0 if `text` is no such rule.
 fn offset_by(text: &str, instant: Timestamp) -> i32
     ensures { result ≡ text_offset text.now instant.nanosecond }
 {
@@ -80,7 +82,8 @@ fn offset_by(text: &str, instant: Timestamp) -> i32
     }
 }
 
-/// Returns how far the clock of a zone is ahead of UTC at `m`, in seconds.
+/// Returns how far the clock of a zone is ahead of UTC at `m`, in seconds: negative for the zones
+/// west of Greenwich.
 #[tactic(auto, unfolding(crate::specs::Zones::offset_of))]
 fn offset_at(zone: LocalZone, m: Minute) -> i32
     ensures { result ≡ offset_of zone m }
@@ -91,8 +94,8 @@ fn offset_at(zone: LocalZone, m: Minute) -> i32
     }
 }
 
-/// Returns the abbreviation of a zone at `m`: that of daylight time if the rule has its offset
-/// then, else that of standard time.
+/// Returns the abbreviation of a zone's local time at `m`. It is that of daylight time if the
+/// zone's rule gives the offset of daylight time at `m`, else that of standard time.
 ///
 /// Source: docs/DECISIONS.md, "Forms" (the calendar).
 pub fn abbreviation_at(zone: LocalZone, m: Minute) -> Abbreviation
@@ -105,8 +108,8 @@ pub fn abbreviation_at(zone: LocalZone, m: Minute) -> Abbreviation
     }
 }
 
-/// The rule of every zone can be parsed, so the offset 0 of a text that is no rule is never
-/// returned.
+/// The POSIX rule of every zone can be parsed. So the offset of a zone is never the 0 that stands
+/// for a text that is no rule.
 pub fn rules_are_read()
     ensures { (z : Zone) → IsSome (read_whole (rule_text z)) }
 {}

@@ -15,8 +15,9 @@ use office_types::Query;
 use program_ends::{End, end_at_once, tell};
 use std::alloc::Global;
 
-/// Writes the board at minute `at` since 2000-01-01T00:00Z UTC, ends the run and returns the exit
-/// status.
+/// Writes the board of the office at minute `at`, counted from 2000-01-01T00:00Z, ends the run and
+/// returns the exit status. If the minute is not from 0 to 52,000,000 or memory runs out, the line
+/// of that fault is written instead.
 fn write_board<D: Disk, K: Sink>(alloc: Global, kept: &KeptOffice<D>, at: i64, output: &mut K) -> u8
     ensures { WritesBoard (state_of kept.now) at
         (K.outflow output.old) (K.outflow output.new) result }
@@ -28,7 +29,8 @@ fn write_board<D: Disk, K: Sink>(alloc: Global, kept: &KeptOffice<D>, at: i64, o
     }
 }
 
-/// The minute of the board: the one given, or the clock's reading.
+/// Returns the minute of the board, counted from 2000-01-01T00:00Z: `minute`, or the clock's
+/// reading if it is `None`.
 fn board_at<C: Clock>(minute: Option<Minute>, clock: &mut C) -> i64
     ensures { IsBoardAt C.Clock minute clock.old clock.new result }
 {
@@ -38,8 +40,10 @@ fn board_at<C: Clock>(minute: Option<Minute>, clock: &mut C) -> i64
     }
 }
 
-/// Writes the board of the office in the journal, at `minute` or at the clock's reading, and ends
-/// the run. The clock is read only if the office was opened and `minute` is `None`.
+/// Writes the board of the office in the journal, at `minute` or, for `None`, at the clock's
+/// reading, and returns the exit status and the disk. If the office can't be opened or shown, the
+/// line of the fault is written instead. The clock is read only if the office was opened and
+/// `minute` is `None`.
 pub fn run_board<K: Sink, D: Disk, C: Clock>(
     alloc: Global,
     minute: Option<Minute>,

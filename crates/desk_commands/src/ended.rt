@@ -13,8 +13,9 @@ pub struct Ended<D> {
     pub disk: D,
 }
 
-/// Ends a run that has written nothing, for a reason other than a write fault, as `end_at_once`
-/// does, and returns its exit status and the disk that is left.
+/// Writes the line of the fault `end` for a run that has written nothing, and returns the exit
+/// status of that fault with `disk`. `end` is not a write fault; if this write fails, the status is
+/// 8.
 pub fn ended_at_once<K: Sink, D: Disk>(output: &mut K, disk: D, end: End) -> Ended<D>
     requires { is_write_fault end ≡ false }
     ensures told { Telling [] (K.outflow output.old) (K.outflow output.new) (Some end)

@@ -15,8 +15,8 @@ use office_types::Query;
 use program_ends::{End, end_run};
 use std::alloc::Global;
 
-/// Writes the texts of all products, in the order in which they were sent. Returns the fault at
-/// which it stopped, if there was one.
+/// Writes the texts of all products of the office, in the order in which they were sent. Returns
+/// the fault at which it stopped, a failed write or out of memory, or `None` if all are written.
 fn write_products<D: Disk, K: Sink>(
     alloc: Global,
     kept: &KeptOffice<D>,
@@ -39,7 +39,8 @@ fn write_products<D: Disk, K: Sink>(
 }
 
 /// Writes the texts of all products of the office in the journal, in the order in which they were
-/// sent, and ends the run.
+/// sent, and returns the exit status and the disk. The line of a fault is written after the texts,
+/// or alone if the office can't be opened.
 pub fn run_export<K: Sink, D: Disk>(alloc: Global, output: &mut K, disk: D) -> Ended<D>
     ensures { UnopenedOr D.Disk (IsExportRun D.Disk) disk result.disk
         (K.outflow output.old) (K.outflow output.new) result.status }

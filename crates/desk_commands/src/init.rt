@@ -20,7 +20,9 @@ use std::alloc::Global;
 /// The most bytes of a settings' file, and one more.
 const ENOUGH: usize = 1_048_577;
 
-/// Reads the input to its end, or up to `ENOUGH` bytes.
+/// Returns the bytes of the input up to its end, or its first 1,048,577 bytes, one more than a
+/// settings' file may have. Errs with `Stop::Read` if a read fails, and with `Stop::OutOfMemory` if
+/// memory runs out.
 fn read_settings<S: Source>(alloc: Global, input: &mut S) -> Result<Text, Stop>
     ensures { SettingsRead (S.inflow input.old) (S.inflow input.new) result }
 {
@@ -43,7 +45,8 @@ fn read_settings<S: Source>(alloc: Global, input: &mut S) -> Result<Text, Stop>
     unreachable!()
 }
 
-/// The text of a settings' fault, with its key if it has one (docs/SETTINGS.md, "Faults").
+/// Returns the name of a settings' fault, followed by a blank and its key if it has one, as
+/// `Missing office` (docs/SETTINGS.md, "Faults").
 fn fault_text(alloc: Global, fault: &SettingsFault) -> Result<Text, Oom>
     ensures { IfOk result (λ text. text ≡ fault_text fault.now) }
 {
@@ -56,7 +59,7 @@ fn fault_text(alloc: Global, fault: &SettingsFault) -> Result<Text, Oom>
     }
 }
 
-/// `word` and then `key`.
+/// Returns `word`, which ends with a blank, followed by `key`.
 fn with_key(alloc: Global, word: &[u8], key: &Text) -> Result<Text, Oom>
     ensures { IfOk result (λ text. text ≡ word.now ++ key.now) }
 {
@@ -65,7 +68,10 @@ fn with_key(alloc: Global, word: &[u8], key: &Text) -> Result<Text, Oom>
     Ok(text)
 }
 
-/// The end of a run that made no journal.
+/// Returns the fault with which a run ends if no journal was made because of `fault`:
+/// `SettingsRefused` with the text of a settings' fault (`OutOfMemory` if memory runs out for it),
+/// `AlreadyKept` for a file that is not fresh, `DiskFault` or `OutOfMemory`. `fault` is neither
+/// `Fresh` nor `Damaged`.
 fn end_of(alloc: Global, fault: &KeepFault) -> End
     requires { MayUnmake fault.now }
     ensures { EndsAs fault.now result }
@@ -82,7 +88,10 @@ fn end_of(alloc: Global, fault: &KeepFault) -> End
     }
 }
 
-/// Makes the journal of an office with these settings.
+/// Makes the journal of an office on `disk` and returns the office; `settings` is the settings'
+/// file, byte for byte. On an error it returns the disk and the fault with which the run ends:
+/// `SettingsRefused`, `AlreadyKept` if the disk's file is not fresh (at most one byte, or `.`
+/// first), `DiskFault` or `OutOfMemory`.
 fn make<D: Disk>(alloc: Global, disk: D, settings: &[u8]) -> Result<KeptOffice<D>, (D, End)>
     ensures made { MatchResult result (λ kept. IsMade D.Disk disk (disk_of kept) settings.now)
         (λ e. IsWhyUnmade D.Disk disk e.0 settings.now e.1) }
@@ -107,17 +116,18 @@ fn make<D: Disk>(alloc: Global, disk: D, settings: &[u8]) -> Result<KeptOffice<D
     }
 }
 
-/// Writes `ready`, ends the run and returns the exit status.
+/// Writes `ready` and an LF, ends the run and returns the exit status. `_kept` is not used: a
+/// caller has one only if the journal was made.
 fn write_made<K: Sink, D: Disk>(output: &mut K, _kept: &KeptOffice<D>) -> u8
     ensures { TellsText (codes "ready\n") (K.outflow output.old) (K.outflow output.new) result }
 {
     tell(output, b"ready\n")
 }
 
-/// Reads the settings of an office from `input`, makes its journal on a fresh disk, writes `ready`
-/// and ends the run.
-///
-/// docs/JOURNAL.md, "What is a journal, and what is not".
+/// Reads the settings' file of an office from `input`, makes its journal on `disk`, writes `ready`,
+/// and returns the exit status and the disk. If that fails, as for a file of the disk that is not
+/// fresh (at most one byte, or `.` first), the line of the fault is written instead, and its status
+/// is returned.
 pub fn run_init<S: Source, K: Sink, D: Disk>(
     alloc: Global,
     input: &mut S,

@@ -30,7 +30,8 @@ pub struct Script<'a, D: Disk, C: Clock> {
     clock: &'a mut C,
 }
 
-/// The reply to a refused line, or the fixed one for out of memory if its text finds no memory.
+/// Returns the JSON text of a refusal as the reply to a line, or the fixed reply for out of memory
+/// if memory runs out for that text.
 fn refusal_reply(alloc: Global, refusal: &Refusal) -> Reply
     ensures { (bytes_of result ≡ refusal_line refusal.now)
         ⊎ (bytes_of result ≡ ended out_of_memory_text) }
@@ -42,7 +43,9 @@ fn refusal_reply(alloc: Global, refusal: &Refusal) -> Reply
 }
 
 impl<'a, D: Disk, C: Clock> Script<'a, D, C> {
-    /// Submits a request at a reading of the clock, in minutes since 2000-01-01T00:00Z UTC.
+    /// Submits a request to the office and returns the reply as a line: the stored reply if it is
+    /// accepted or repeated, else the refusal or the fault. `reading` is the clock's, in minutes
+    /// since 2000-01-01T00:00Z.
     fn judge(&mut self, alloc: Global, asked: &Asked, reading: i64) -> Reply
         requires form { HasForm asked.now }
         ensures judged { (gave : Gave)
@@ -73,6 +76,9 @@ impl<'a, D: Disk, C: Clock> Answers for Script<'a, D, C> {
 
     ghost out_of_memory = { λ _ _ _. ⊥ };
 
+    /// Returns the office's reply to a line: nothing to an empty line, and the refusal
+    /// `LineTooLong` for `None`. The clock is read once for each line that is not empty. It never
+    /// errs.
     fn answer(&mut self, alloc: Global, line: Option<&[u8]>) -> Result<Reply, Oom> {
         let Some(bytes) = line else {
             let _ = self.clock.tick();
@@ -90,9 +96,11 @@ impl<'a, D: Disk, C: Clock> Answers for Script<'a, D, C> {
     }
 }
 
-/// Answers each line of an input of at most `limit` bytes by the office in the journal, and ends
-/// the run. The clock is read once for each line that is not empty. If no office is opened nothing
-/// of the input is read.
+/// Writes the answer of the office in the journal to each line of the input that is not empty, one
+/// request a line, and returns the exit status and the disk; an input of more than `limit` bytes
+/// ends the run (`InputTooLong`) after the lines that end within the limit. The clock is read once
+/// for each line that is not empty. If the office can't be opened, the line of the fault is
+/// written, and nothing of the input is read.
 pub fn run_script<S: Source, K: Sink, D: Disk, C: Clock>(
     alloc: Global,
     limit: usize,
@@ -116,7 +124,10 @@ pub fn run_script<S: Source, K: Sink, D: Disk, C: Clock>(
     }
 }
 
-/// Answers each line of an input by an office that was opened.
+/// Writes the answer of the office `kept` to each line of the input that is not empty, one request
+/// a line, and returns the exit status with the journal's disk. `clock` is read once for each line
+/// that is not empty. An input of more than `limit` bytes ends the run (`InputTooLong`) after the
+/// lines that end within the limit.
 fn answer_script<S: Source, K: Sink, D: Disk, C: Clock>(
     alloc: Global,
     limit: usize,
@@ -141,7 +152,10 @@ fn answer_script<S: Source, K: Sink, D: Disk, C: Clock>(
     }
 }
 
-/// Answers each line of an input by an office at the clock's readings.
+/// Writes the answer of the office `kept` to each line of the input that is not empty, one request
+/// a line, ends the run and returns the exit status. `clock` is read once for each line that is not
+/// empty. An input of more than `limit` bytes ends the run (`InputTooLong`) after the lines that
+/// end within the limit.
 fn answer_lines<S: Source, K: Sink, D: Disk, C: Clock>(
     alloc: Global,
     limit: usize,
@@ -161,7 +175,9 @@ fn answer_lines<S: Source, K: Sink, D: Disk, C: Clock>(
     run_over(alloc, limit, &mut script, input, output)
 }
 
-/// Runs over the lines of an input.
+/// Writes the answer of `script` to each line of the input that is not empty, ends the run and
+/// returns the exit status. An input of more than `limit` bytes ends the run (`InputTooLong`) after
+/// the lines that end within the limit.
 fn run_over<S: Source, K: Sink, D: Disk, C: Clock>(
     alloc: Global,
     limit: usize,

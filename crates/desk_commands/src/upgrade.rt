@@ -11,7 +11,8 @@ use office_journal::Upgrade;
 use program_ends::{End, end_at_once, tell};
 use std::alloc::Global;
 
-/// Writes what became of an upgrade, ends the run and returns the exit status.
+/// Writes `edition 2` if the journal has the mark of edition Two, put there now (`Done`) or before
+/// (`Already`), or else the line of the fault, ends the run and returns the exit status.
 fn write_upgrade<K: Sink>(output: &mut K, upgrade: Upgrade) -> u8
     ensures { WritesUpgrade upgrade (K.outflow output.old) (K.outflow output.new) result }
 {
@@ -24,8 +25,9 @@ fn write_upgrade<K: Sink>(output: &mut K, upgrade: Upgrade) -> u8
     }
 }
 
-/// Appends the mark of edition Two to the journal unless it is there, writes `edition 2` and ends
-/// the run. Later texts of the office are of edition Two.
+/// Appends the mark of edition Two to the journal unless it is there, writes `edition 2`, and
+/// returns the exit status and the disk. The texts of products sent after the mark are of edition
+/// Two. If that fails, the line of the fault is written instead.
 pub fn run_upgrade<K: Sink, D: Disk>(alloc: Global, output: &mut K, disk: D) -> Ended<D>
     ensures { UnopenedOr D.Disk (IsUpgradeRun D.Disk) disk result.disk
         (K.outflow output.old) (K.outflow output.new) result.status }

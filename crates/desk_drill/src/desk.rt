@@ -36,7 +36,8 @@ pub struct DrillDesk {
     pub opened: List<Event>,
 }
 
-/// The minute of the last entry before there is one, 0.
+/// Returns minute 0, 2000-01-01T00:00Z, which stands for the minute of the last entry before there
+/// is one.
 fn first_minute() -> Minute
     ensures { result ≡ 0 }
 {
@@ -46,7 +47,8 @@ fn first_minute() -> Minute
     }
 }
 
-/// The events that a product opens, as its reply names them.
+/// Returns the events that the product of a prepared request opens, in the order in which the reply
+/// names them. The request must have made a product.
 fn events_of(prepared: &Prepared) -> &[Event]
     requires made { IsSome prepared.now.made }
     requires reply { prepared.now.entry.reply ≡ sent_reply prepared.now.made }
@@ -58,7 +60,7 @@ fn events_of(prepared: &Prepared) -> &[Event]
     }
 }
 
-/// The text of the prepared product.
+/// Returns the text of the product that a prepared request made. The request must have made one.
 fn text_of(prepared: &Prepared) -> &[u8]
     requires { IsSome prepared.now.made }
     ensures { option_map (λ made. made.sent.text) prepared.now.made ≡ Some result.now }
@@ -70,7 +72,8 @@ fn text_of(prepared: &Prepared) -> &[u8]
 }
 
 impl DrillDesk {
-    /// Returns the office of a drill before its first request.
+    /// Returns the office of a drill before its first request, with all counts at 0. It is office
+    /// `KDRL`, with the desks `D1` to `D4` and 2,000 zones.
     ///
     /// # Errors
     ///
@@ -94,7 +97,9 @@ impl DrillDesk {
         })
     }
 
-    /// Counts and commits a request of desk `place`, and reads the text of its product.
+    /// Commits a prepared request of desk `place`, 0 for `D1` to 3 for `D4`, to the office, counts
+    /// it as accepted, and has the reader read the text of its product. Errs if memory runs out;
+    /// the counts are of no use then.
     fn accept(&mut self, alloc: Global, place: u32, prepared: Prepared) -> Result<(), Oom>
         requires may { MayCommit self.old.office prepared }
         requires made { IsSome prepared.made }
@@ -129,7 +134,9 @@ impl DrillDesk {
         Ok(())
     }
 
-    /// Answers a request, and counts it as accepted or refused.
+    /// Submits a request to the office, under the number after its desk's last accepted one, and
+    /// counts it as accepted or refused. An accepted request is committed, its events are added to
+    /// those opened, and the text of its product is read.
     ///
     /// # Errors
     ///
@@ -162,8 +169,8 @@ impl DrillDesk {
         }
     }
 
-    /// Returns the number of rows shown at the minute of the last entry, as a reader of the texts
-    /// finds them.
+    /// Returns the number of rows that are live at the minute of the last entry (no line has ended
+    /// them, and their end is later), as a reader finds them in the texts of the products alone.
     ///
     /// # Errors
     ///
@@ -175,7 +182,8 @@ impl DrillDesk {
         self.texts.shown(alloc, self.last)
     }
 
-    /// Returns the number of breaches, gaps and faults that a reader finds in the texts, added up.
+    /// Returns the number of faults that a reader finds in the texts of the products: VTEC lines
+    /// that break a rule, gaps in the event numbers, and texts that do not decode, added up.
     ///
     /// # Errors
     ///

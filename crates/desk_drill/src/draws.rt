@@ -13,7 +13,7 @@ pub struct Draws {
 }
 
 impl Draws {
-    /// Returns the next number, below 2^31.
+    /// Returns the next random number, below 2^31, and advances the generator.
     pub fn draw(&mut self) -> u64
         ensures state { self.new.state ≡ next_draw self.old.state }
         ensures value { result ≡ drawn self.new.state }

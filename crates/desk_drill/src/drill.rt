@@ -23,7 +23,7 @@ pub struct Drill {
     pub count: u32,
 }
 
-/// The office after the requests of a drill.
+/// Returns the office of a drill after it has answered all requests of the drill, with its counts.
 fn drilled(alloc: Global, drill: &Drill) -> Result<DrillDesk, Oom>
     requires { drill.now.count ≤ 8192 }
     ensures run { IfOk result (λ d. LeadsTo first_drilled
@@ -41,7 +41,8 @@ fn drilled(alloc: Global, drill: &Drill) -> Result<DrillDesk, Oom>
     Ok(desk)
 }
 
-/// The summary of a drill.
+/// Runs all requests of a drill and returns its summary: six lines, each a name, a blank, a number
+/// and LF, with the names accepted, refused, products, events, shown and breaches, in this order.
 fn summary_of(alloc: Global, drill: &Drill) -> Result<Text, Oom>
     requires { drill.now.count ≤ 8192 }
     ensures { IfOk result (IsSummary drill.now.number drill.now.count) }
@@ -51,8 +52,9 @@ fn summary_of(alloc: Global, drill: &Drill) -> Result<Text, Oom>
     summary(alloc, &desk)
 }
 
-/// Runs a drill, writes its summary and returns the exit status. If memory runs out nothing of the
-/// summary is written.
+/// Runs a drill, writes its summary to `output` and returns the exit status: 0 if all went well, 8
+/// if a write failed, 12 if memory ran out. If memory runs out, only the line that reports this is
+/// written.
 pub fn run_drill<K: Sink>(alloc: Global, drill: &Drill, output: &mut K) -> u8
     requires { drill.now.count ≤ 8192 }
     // The six lines, or the line for out of memory.

@@ -1,6 +1,6 @@
 //! The drill: generated requests through an office in memory, whose texts are read as they are
-//! written. For the program `warn_main` and for tests. One begins with `parse_drill` for the arguments
-//! and `run_drill`.
+//! written. For the program `warn_main` and for tests. One begins with `parse_drill` for the
+//! arguments and `run_drill`.
 //!
 //! docs/COMMANDS.md, "The commands".
 #![tactic(auto)]

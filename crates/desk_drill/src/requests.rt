@@ -32,7 +32,8 @@ pub struct DrillRequest {
     pub minute: Minute,
 }
 
-/// The state's letters of zone i.
+/// Returns the letters of the state of zone `i`, counted from 0: `AA` for the first 999 zones, `AB`
+/// for the next 999, then `AC`.
 fn letters_at(i: u32) -> [u8; 2]
     ensures value { result ≡ letters_at i }
     ensures letters { IsTrue (are_letters result) }
@@ -46,7 +47,8 @@ fn letters_at(i: u32) -> [u8; 2]
     }
 }
 
-/// Zone i, whose number is i mod 999 + 1.
+/// Returns zone `i` of the drill, counted from 0: a forecast zone (Z) with the number i mod 999 +
+/// 1.
 fn zone_at(i: u32) -> Zone
     ensures { result ≡ zone_at i }
 {
@@ -56,7 +58,7 @@ fn zone_at(i: u32) -> Zone
     }
 }
 
-/// Returns `count` zones from zone i on.
+/// Returns `count` zones of the drill in order, from zone `i`, counted from 0, on.
 ///
 /// # Errors
 ///
@@ -74,7 +76,7 @@ pub fn zones_from(alloc: Global, i: u32, count: u32) -> Result<List<Zone>, Oom>
     Ok(zones)
 }
 
-/// The name of desk `place`, counted from 0.
+/// Returns the name of desk `place`, counted from 0: `D1`, `D2`, `D3`, and `D4` for 3 and above.
 fn name_at(place: u32) -> [u8; 2]
     ensures value { result ≡ desk_at place }
     ensures name { IsTrue (is_desk_name result) }
@@ -90,7 +92,8 @@ fn name_at(place: u32) -> [u8; 2]
     }
 }
 
-/// Returns desk `place` of the four, counted from 0.
+/// Returns desk `place` of the drill's four, `D1` to `D4`, counted from 0. A place above 3 is that
+/// of `D4`.
 pub fn desk_at(place: u32) -> Desk
     ensures { result ≡ desk_at place }
 {
@@ -100,7 +103,7 @@ pub fn desk_at(place: u32) -> Desk
     }
 }
 
-/// The hazard of two letters and a significance.
+/// Returns the hazard of a phenomenon, two capital letters, and a significance.
 fn hazard(letters: [u8; 2], sig: Sig) -> Hazard
     requires { IsTrue (are_letters letters) }
     ensures value { result ≡ record { phen = letters; sig = sig } }
@@ -112,7 +115,8 @@ fn hazard(letters: [u8; 2], sig: Sig) -> Hazard
     }
 }
 
-/// Hazard `place` of the five, counted from 0.
+/// Returns hazard `place` of the drill's five, counted from 0: WS.W, WW.Y, HW.W, WI.Y, and FG.Y for
+/// 4 and above.
 fn hazard_at(place: u64) -> Hazard
     ensures value { result ≡ hazard_at place }
     ensures form { IsHazard result }
@@ -130,7 +134,8 @@ fn hazard_at(place: u64) -> Hazard
     }
 }
 
-/// The minute `count` minutes after 180101T0000Z.
+/// Returns the minute `count` minutes after 2018-01-01T00:00Z, the minute of the drill's first
+/// request.
 fn minute_after_start(count: u32) -> Minute
     requires { count ≤ 50000 }
     ensures { result ≡ 9468000 + count }
@@ -141,7 +146,10 @@ fn minute_after_start(count: u32) -> Minute
     }
 }
 
-/// What request i asks for, by its two random numbers: `a` chooses the hazard, `b` the zones.
+/// Returns the issue that request `i`, counted from 0, asks for: hazard `a` mod 5 of the drill's
+/// five, in six zones from zone `b` mod 1995 on. It begins now and ends 240 minutes after the
+/// minute of the request, which is 5 `i` minutes after the drill's first. `a` and `b` are the two
+/// random numbers of the request.
 fn part_of(alloc: Global, a: u64, b: u64, i: u32) -> Result<PutPart, Oom>
     requires { i ≤ 8192 }
     ensures value { IfOk result (λ part. part ≡ part_of a b (minute_at i)) }
@@ -158,8 +166,8 @@ fn part_of(alloc: Global, a: u64, b: u64, i: u32) -> Result<PutPart, Oom>
     })
 }
 
-/// Returns request i, counted from 0, with the next two random numbers. It is of desk i mod 4, five
-/// minutes after the one before it.
+/// Returns request `i`, counted from 0, made with the next two random numbers of `draws`. It is of
+/// desk `i` mod 4, and its minute is 5 `i` minutes after 2018-01-01T00:00Z.
 ///
 /// # Errors
 ///

@@ -12,6 +12,7 @@ use std::alloc::Global;
 /// The number of zones.
 const ZONES: u32 = 2000;
 
+/// Returns the heading of each of the eight categories: `XXXX00`, that of training, for all.
 #[tactic(auto, unfolding(desk_settings::specs::AreSettings::training_headings))]
 fn headings() -> [[u8; 6]; 8]
     ensures { result ≡ training_headings }
@@ -19,14 +20,14 @@ fn headings() -> [[u8; 6]; 8]
     [*b"XXXX00"; 8]
 }
 
-/// The four desks.
+/// Returns the four desks of the drill, `D1` to `D4`.
 fn desks(alloc: Global) -> Result<List<Desk>, Oom>
     ensures { IfOk result (λ desks. desks ≡ drill_desks) }
 {
     List::from_slice(alloc, &[desk_at(0), desk_at(1), desk_at(2), desk_at(3)])
 }
 
-/// The zones, each with the same name.
+/// Returns each of the zones, in order, with the name `Plain`.
 fn named(alloc: Global, zones: &[Zone]) -> Result<List<(Zone, Text)>, Oom>
     ensures { IfOk result (λ named. named ≡ map plain zones.now) }
 {
@@ -38,6 +39,8 @@ fn named(alloc: Global, zones: &[Zone]) -> Result<List<(Zone, Text)>, Oom>
     Ok(named)
 }
 
+/// Returns the settings of a drill: office `KDRL`, site `DRL`, the desks `D1` to `D4`, 2,000 zones
+/// with the name `Plain`, times in UTC, and the headings of training.
 #[tactic(auto, unfolding(crate::specs::Office::drill_zones))]
 fn made(alloc: Global) -> Result<Settings, Oom>
     ensures { IfOk result (λ s. s ≡ drill_settings) }
@@ -56,8 +59,9 @@ fn made(alloc: Global) -> Result<Settings, Oom>
     })
 }
 
-/// Returns the settings of a drill: those of training, with four desks and 2,000 zones
-/// (docs/DECISIONS.md, "The drill").
+/// Returns the settings of a drill (docs/DECISIONS.md, "The drill"): office `KDRL`, site `DRL`, the
+/// desks `D1` to `D4`, 2,000 zones with the name `Plain`, times in UTC, and the headings of
+/// training.
 ///
 /// # Errors
 ///

@@ -20,7 +20,7 @@ pub struct TextReader {
 }
 
 impl TextReader {
-    /// Returns a reader before the first text.
+    /// Returns a reader, for texts of class O of the office `KDRL`, that has read no text.
     pub fn new(alloc: Global) -> Self
         ensures office { result.reader.office ≡ drill_office }
         ensures class { result.reader.class ≡ classes.O }
@@ -33,7 +33,8 @@ impl TextReader {
         }
     }
 
-    /// Decodes a text and takes its product, or counts a text that does not decode.
+    /// Decodes a text and adds its product to those of the reader, after the others. A text that
+    /// does not decode adds one to `faults` instead.
     ///
     /// # Errors
     ///
@@ -58,7 +59,8 @@ impl TextReader {
         }
     }
 
-    /// The number of breaches and gaps in the products, added up.
+    /// Returns the sum of two numbers: the lines of the reader's products that break a rule, and
+    /// the gaps in their event numbers.
     fn findings(&self, alloc: Global) -> Result<usize, Oom>
         ensures value { IfOk result (λ n. n ≡ findings_in self.now.reader.products) }
         ensures bound { IfOk result (λ n. n + 8192 < 2 ^ 64) }
@@ -68,7 +70,8 @@ impl TextReader {
         Ok(breaches.len() + gaps.len())
     }
 
-    /// Returns the number of breaches, gaps and texts that did not decode, added up.
+    /// Returns the sum of three numbers: the lines of the reader's products that break a rule, the
+    /// gaps in their event numbers, and the texts that did not decode.
     ///
     /// # Errors
     ///
@@ -81,7 +84,8 @@ impl TextReader {
         Ok(self.faults as usize + findings)
     }
 
-    /// Returns the number of rows shown at minute t.
+    /// Returns the number of rows that are live at minute `t` after the reader's products: no line
+    /// has ended them, and their end is after `t`.
     ///
     /// # Errors
     ///

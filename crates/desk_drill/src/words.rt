@@ -8,8 +8,9 @@ use program_ends::number_in;
 /// The most requests of a drill.
 const MOST: u64 = 8192;
 
-/// Parses the arguments `drill NUMBER COUNT`, decimal digits with leading zeros allowed, a number
-/// below 2^64 and a count of at most 8,192. `None` exactly if they are something else.
+/// Returns the drill of the arguments `drill NUMBER COUNT`, or `None` exactly if they are something
+/// else. NUMBER, below 2^64, is the first state of the random numbers, and COUNT, at most 8,192,
+/// the number of requests; both are decimal digits, with leading zeros allowed.
 #[tactic(auto, unfolding(crate::specs::Words::parse_drill))]
 pub fn parse_drill(command: &[u8], number: &[u8], count: &[u8]) -> Option<Drill>
     ensures value { result ≡ parse_drill command.now number.now count.now }

@@ -40,22 +40,23 @@ impl Ahead {
         }
     }
 
-    /// Whether no byte is left.
+    /// Whether the buffer holds no byte that is still to be handed out.
     pub fn is_empty(&self) -> bool
         ensures { IsTrue result ↔ (self.now ≡ []) }
     {
         self.bytes[self.from..self.to].is_empty()
     }
 
-    /// Returns the bytes that are left.
+    /// Returns the bytes of the buffer that were not yet handed out, in the order in which they
+    /// were read.
     pub fn as_slice(&self) -> &[u8]
         ensures { result.now ≡ self.now }
     {
         &self.bytes[self.from..self.to]
     }
 
-    /// Reads `source` once into the buffer, which must be empty. After `Ok` it is empty exactly at
-    /// the source's end.
+    /// Reads up to 4,096 bytes of `source` into the buffer, which must be empty, with one read.
+    /// After `Ok` the buffer is still empty only if `source` had no byte left.
     ///
     /// # Errors
     ///
@@ -78,8 +79,8 @@ impl Ahead {
         Ok(())
     }
 
-    /// Moves the first bytes of the buffer to the start of `into`, as many as fit, and returns how
-    /// many.
+    /// Moves the first bytes of the buffer to the start of `into`, as many as the buffer holds and
+    /// `into` has room for, and returns how many.
     pub fn hand_out(&mut self, into: &mut [u8]) -> usize
         ensures count { result ≡ min (length self.old) (length into.old) }
         ensures bytes { self.old ≡ take result into.new ++ self.new }

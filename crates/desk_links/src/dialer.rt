@@ -11,7 +11,8 @@ pub trait Peer: Link {
     /// The bytes that were received and not yet handed out; the next reads return them first.
     ghost held: { Self → List ℕ };
 
-    /// Returns the bytes that were received and not yet handed out. There may be none.
+    /// Returns the bytes that were received from the other side and that no read has returned yet,
+    /// in order. There may be none; the next reads return them first.
     fn waiting(&self) -> &[u8]
         ensures { result.now ≡ held self.now };
 
@@ -43,6 +44,7 @@ pub trait Dialer {
     ghost state: { Self → DialerState };
 
     /// Connects, and returns a link of which nothing was read and to which nothing was written.
+    /// Every link that was lent before must have been returned.
     ///
     /// # Errors
     ///
@@ -52,8 +54,8 @@ pub trait Dialer {
         requires few { (state self.old).returned < 2 ^ 32 }
         ensures { GivesLink Self.Link.state (state self.old) (state self.new) result };
 
-    /// Takes a link back, and adds its counts of faults to that of the dialer. Takes no memory and
-    /// can't fail.
+    /// Takes back `link`, the one that is lent, and adds the numbers of its failed reads and failed
+    /// writes to the dialer's count of faults. Takes no memory and can't fail.
     fn return_link(&mut self, link: Self::Link)
         requires one_out { (state self.old).given ≡ (state self.old).returned + 1 }
         ensures { state self.new ≡ with_count (state self.old) (Self.Link.state link) };

@@ -1,6 +1,6 @@
 //! A dialer in memory, which lends the links that it was made with.
 ghost use Rattle.std.specs.Prelude.{◌≡◌, ◌⊎◌, ◌<◌, ◌+◌, ◌++◌, ◌∷◌, ◌^◌, ◌↔◌, []};
-ghost use Rattle.std.specs.Prelude.{length, min, Some, Contains, IfOk, OnOk, OnErr, IsErr};
+ghost use Rattle.std.specs.Prelude.{length, min, Contains, IfOk, OnErr, IsErr};
 ghost use Rattle.desk_traits.specs.Faults.{next_count};
 ghost use Rattle.byte_streams.specs.Flows.{Reads};
 ghost use Rattle.desk_links.specs.Links.{GivesLink, HandsOut, with_count};
@@ -32,14 +32,15 @@ impl Model for MemPeer {
 }
 
 impl MemPeer {
-    /// Returns a peer over `link`.
+    /// Returns a peer that reads and writes over `link`: as `link` does, except that a read where
+    /// no byte is left fails unless its buffer is empty.
     pub fn new(link: MemLink) -> Self
         ensures { result ≡ link }
     {
         MemPeer { link }
     }
 
-    /// Returns the written bytes.
+    /// Returns all bytes written to the link so far, in order.
     pub fn written(&self) -> &Text
         ensures { result.now ≡ self.now.written }
     {
@@ -52,6 +53,10 @@ impl Source for MemPeer {
 
     ghost reads = { KeepsOut };
 
+    /// Copies the next bytes to the start of `into`, as many as are left and fit both the link's
+    /// piece size and `into`, and returns how many. Fails, which is counted, if the number of the
+    /// call, counted from 1 over reads and writes, is one of those given to `MemLink::new`, or if
+    /// no byte is left and `into` is not empty.
     fn read(&mut self, into: &mut [u8]) -> Result<usize, Failed>
         ensures read { Reads (link_input self.old) (link_input self.new) result into.new }
         ensures counted { OnErr result (self.new.read_faults ≡ next_count self.old.read_faults) }
@@ -86,6 +91,9 @@ impl Sink for MemPeer {
 
     ghost more_writes = { keeps_in_more };
 
+    /// Appends all of `bytes` to the written bytes and returns how many they are. The call fails,
+    /// is counted and appends nothing if its number, counted from 1 over reads and writes, is one
+    /// of those given to `MemLink::new`, or if memory runs out.
     fn write(&mut self, bytes: &[u8]) -> Result<usize, Failed> {
         self.link.write(bytes)
     }
@@ -115,10 +123,16 @@ impl Peer for MemPeer {
 
     ghost held_first = { begins_left };
 
+    /// Returns the bytes that the next read returns first: the first of those left, as many as the
+    /// link hands out at one read, and none at the end.
     fn waiting(&self) -> &[u8] {
         self.link.next_piece()
     }
 
+    /// Copies the next bytes to the start of `into`, which must not be empty, and returns how many:
+    /// as many as are left and fit both the link's piece size and `into`. Fails, which is counted,
+    /// if no byte is left, or if the number of the call, counted from 1 over reads and writes, is
+    /// one of those given to `MemLink::new`.
     fn read_some(&mut self, into: &mut [u8]) -> Result<usize, Failed> {
         self.read(into)
     }
@@ -132,6 +146,9 @@ impl Dialer for LentLinks {
 
     ghost state = { door_state };
 
+    /// Returns the next link, in the order given to `LentLinks::new`, as a peer. Fails, which is
+    /// counted, if no link is left or the number of the dial, counted from 1, is one of the failing
+    /// ones given to `LentLinks::new`.
     fn dial(&mut self) -> Result<MemPeer, Failed>
         requires none_out { self.old.given ≡ length self.old.back }
         requires few { length self.old.back < 2 ^ 32 }
@@ -142,6 +159,8 @@ impl Dialer for LentLinks {
         Ok(MemPeer { link })
     }
 
+    /// Appends `link`, the one that is lent, to the returned links, and adds the numbers of its
+    /// failed reads and failed writes to the dialer's count of faults.
     fn return_link(&mut self, link: MemPeer)
         requires one_out { self.old.given ≡ length self.old.back + 1 }
         ensures counted { door_state self.new ≡ with_count (door_state self.old) (link_state link) }

@@ -2,10 +2,12 @@
 
 /// A hook called before each call is judged and after it was handled.
 pub trait Gate {
-    /// Call `call` of a link, counted from 1, was read whole and is judged next.
+    /// Is called after a client's call number `call` on a link, 1 for the first, was read whole,
+    /// and before it is answered. It may block, which holds up the answer.
     fn enter(&self, call: u64);
 
-    /// Call `call` was handled: its answer was written, or its link ended.
+    /// Is called after a client's call number `call` on a link, 1 for the first, was handled: its
+    /// answer was written, or the link ended.
     fn leave(&self, call: u64);
 }
 
@@ -14,7 +16,9 @@ pub trait Gate {
 pub struct OpenGate;
 
 impl Gate for OpenGate {
+    /// Does nothing, so no call is held up.
     fn enter(&self, _call: u64) {}
 
+    /// Does nothing after a call.
     fn leave(&self, _call: u64) {}
 }

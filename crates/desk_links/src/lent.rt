@@ -43,8 +43,9 @@ impl Model for LentLinks {
 }
 
 impl LentLinks {
-    /// Returns `links`, none of them lent. Call n of `lend`, counted from 1, fails if n is in
-    /// `failing`, and so does each call once no link is left.
+    /// Returns a lender of `links`, in their order, none of them lent; they must be unused, with
+    /// nothing read, nothing written and no failure. Call n of `lend`, counted from 1, fails if n
+    /// is in `failing`, and so does each call once no link is left.
     ///
     /// # Errors
     ///
@@ -64,7 +65,9 @@ impl LentLinks {
         })
     }
 
-    /// Returns the next link.
+    /// Returns the first of the links that were not yet lent, which is then lent. Every link that
+    /// was lent before must have been taken back. The calls that fail are those whose numbers,
+    /// counted from 1 over all calls, `new` got as `failing`, and all once no link is left.
     ///
     /// # Errors
     ///
@@ -86,7 +89,7 @@ impl LentLinks {
         Err(Failed)
     }
 
-    /// Takes a link back.
+    /// Appends `link`, the one that is lent, to the returned links. Takes no memory and can't fail.
     pub fn take_back(&mut self, link: MemLink)
         requires one_out { self.old.given ≡ length self.old.back + 1 }
         ensures { self.new ≡ with_back self.old link }
@@ -94,28 +97,30 @@ impl LentLinks {
         self.back.push_reserved(link);
     }
 
-    /// Adds `count` to the count of faults.
+    /// Adds `count` to the count of faults, which stays at 2^64 - 1 once it is reached.
     pub fn add_faults(&mut self, count: u64)
         ensures { self.new ≡ with_faults self.old count }
     {
         self.faults = self.faults.saturating_add(count);
     }
 
-    /// Returns the returned links, in order.
+    /// Returns the links that were lent and taken back, in the order in which they were taken back.
     pub fn links(&self) -> &[MemLink]
         ensures { result.now ≡ self.now.back }
     {
         &self.back
     }
 
-    /// Returns the count of faults: failed calls of `lend`, and what `add_faults` added.
+    /// Returns the count of faults: the number of failed calls of `lend` and what `add_faults`
+    /// added, at most 2^64 - 1.
     pub fn faults(&self) -> u64
         ensures { result ≡ self.now.faults }
     {
         self.faults
     }
 
-    /// Returns the returned links, in order, and drops the others.
+    /// Returns the links that were lent and taken back, in the order in which they were taken back,
+    /// and drops those that were never lent.
     pub fn into_back(self) -> Vec<MemLink>
         ensures { result.items ≡ self.back }
     {

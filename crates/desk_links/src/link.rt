@@ -34,7 +34,7 @@ pub trait Link: Source + Sink {
 }
 
 /// Reads up to `into.len()` bytes of `link` into the start of `into` and returns how many. `Ok(0)`
-/// for a non-empty buffer means the end of what came.
+/// for a non-empty `into` means that the bytes from the other side have ended.
 ///
 /// # Errors
 ///

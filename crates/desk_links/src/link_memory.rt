@@ -49,9 +49,9 @@ impl Model for MemLink {
 }
 
 impl MemLink {
-    /// Returns a link over `bytes` that hands out at most `piece` bytes a read. Reads and writes
-    /// are counted together, from 1; call n fails if n is in `failing`, and so does each write for
-    /// which memory runs out.
+    /// Returns a link whose reads return `bytes` in order, at most `piece` of them a read, which
+    /// must be at least 1, and to which nothing was written. Reads and writes are counted together,
+    /// from 1; call n fails if n is in `failing`, and so does each write for which memory runs out.
     ///
     /// # Errors
     ///
@@ -75,20 +75,22 @@ impl MemLink {
         })
     }
 
-    /// Returns the written bytes.
+    /// Returns all bytes written to the link so far, in order.
     pub fn written(&self) -> &Text
         ensures { result.now ≡ self.now.written }
     {
         &self.written
     }
 
+    /// Whether no byte is left to read.
     pub(crate) fn is_at_end(&self) -> bool
         ensures { IsTrue result ↔ (self.now.left ≡ []) }
     {
         self.bytes.as_slice()[self.at..].is_empty()
     }
 
-    // The bytes that the next read may return.
+    /// Returns the bytes that the next read may return: the first of those left, at most as many as
+    /// the piece size given to `new`, and none at the end.
     pub(crate) fn next_piece(&self) -> &[u8]
         ensures { result.now ≡ next_piece self.now }
     {
@@ -96,7 +98,7 @@ impl MemLink {
         &rest[..rest.len().min(self.piece)]
     }
 
-    // Counts a read that failed.
+    /// Counts a failed read: adds 1 to the number of calls and to that of failed reads.
     pub(crate) fn fail_read(&mut self)
         ensures later { self.old.read_faults ≤ self.new.read_faults }
         ensures new { self.new ≡ with_failed_read self.old }
@@ -105,7 +107,7 @@ impl MemLink {
         self.read_faults = self.read_faults.saturating_add(1);
     }
 
-    // The number of failed reads and writes, together.
+    /// Returns the number of failed reads and of failed writes, added up, at most 2^64 - 1.
     pub(crate) fn all_faults(&self) -> u64
         ensures { result ≡ min (self.now.read_faults + self.now.write_faults) (2 ^ 64 - 1) }
     {
@@ -118,6 +120,10 @@ impl Source for MemLink {
 
     ghost reads = { KeepsOut };
 
+    /// Copies the next bytes to the start of `into`, as many as are left and fit both the piece
+    /// size given to `new` and `into`, and returns how many; 0 for a non-empty `into` means that
+    /// none is left. The call fails, which is counted, exactly if its number, counted from 1 over
+    /// reads and writes, is one of those given to `new`.
     fn read(&mut self, into: &mut [u8]) -> Result<usize, Failed>
         ensures read { Reads (link_input self.old) (link_input self.new) result into.new }
         ensures counted { OnErr result (self.new.read_faults ≡ next_count self.old.read_faults) }
@@ -150,7 +156,9 @@ impl Sink for MemLink {
 
     ghost more_writes = { keeps_in_more };
 
-    /// Writes all of `bytes`. If memory runs out the call fails, and is counted.
+    /// Appends all of `bytes` to the written bytes and returns how many they are. The call fails,
+    /// is counted and appends nothing if its number, counted from 1 over reads and writes, is one
+    /// of those given to `new`, or if memory runs out.
     fn write(&mut self, bytes: &[u8]) -> Result<usize, Failed>
         ensures written { Writes (link_output self.old) (link_output self.new) result bytes.now }
         ensures counted { OnErr result (self.new.write_faults ≡ next_count self.old.write_faults) }

@@ -15,7 +15,8 @@ pub trait Door {
     /// the door exposes them, and the number of failed accepts.
     ghost state: { Self → DoorState };
 
-    /// Accepts a link, of which nothing was read and to which nothing was written.
+    /// Accepts the next connection and returns it as a link, of which nothing was read and to which
+    /// nothing was written. Every link that was lent before must have been returned.
     ///
     /// # Errors
     ///
@@ -25,7 +26,8 @@ pub trait Door {
         requires few { (state self.old).returned < 2 ^ 32 }
         ensures { GivesLink Self.Link.state (state self.old) (state self.new) result };
 
-    /// Takes a link back. Takes no memory and can't fail.
+    /// Takes back `link`, the one that is lent, and counts it as returned; the door's count of
+    /// faults stays as it is. Takes no memory and can't fail.
     fn return_link(&mut self, link: Self::Link)
         requires one_out { (state self.old).given ≡ (state self.old).returned + 1 }
         ensures { state self.new ≡ with_link (state self.old) (Self.Link.state link) };
@@ -39,7 +41,8 @@ pub trait Port {
     /// if the port exposes them, and the number of failures of the port and of its returned doors.
     ghost state: { Self → PortState };
 
-    /// Listens at `port` and returns `doors` unused doors of it.
+    /// Listens at port number `port` and returns a list of as many doors as `doors` says, which
+    /// lend the links that come to it. No door has lent a link or failed yet.
     ///
     /// # Errors
     ///
@@ -48,8 +51,8 @@ pub trait Port {
     fn listen(&mut self, port: u16, doors: usize) -> Result<List<Self::Door>, Or<Failed>>
         ensures { Listens Self.Door.state (state self.old) (state self.new) port doors result };
 
-    /// Takes a door back, and adds its count of faults and its returned links to those of the port.
-    /// Takes no memory and can't fail.
+    /// Takes back `door`, which must have no link lent, and adds its count of faults and its
+    /// returned links to those of the port. Takes no memory and can't fail.
     fn return_door(&mut self, door: Self::Door)
         requires none_out { (Self.Door.state door).given ≡ (Self.Door.state door).returned }
         requires few { (state self.old).returned + (Self.Door.state door).returned < 2 ^ 32 }

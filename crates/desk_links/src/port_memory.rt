@@ -38,7 +38,9 @@ impl Model for MemDoor {
 }
 
 impl MemDoor {
-    // An unused door.
+    /// Returns an unused door that lends `links`, all of them unused, in their order, or an error
+    /// if memory runs out. `failing` has the numbers, counted from 1, of the accepts that fail;
+    /// each accept fails once no link is left.
     fn new(alloc: Global, links: List<MemLink>, failing: List<u64>) -> Result<Self, Oom>
         requires { All IsUntouched links }
         ensures { IfOk result (λ door. door ≡ door_with links failing) }
@@ -49,7 +51,9 @@ impl MemDoor {
         Ok(MemDoor { links, node })
     }
 
-    // The returned links, in the list node made for them.
+    /// Returns a linked list with one element: the list of the links that the door took back, in
+    /// the order in which it took them back. The node of that element was made with the door, so
+    /// this takes no memory.
     fn into_node(self) -> LinkedList<List<MemLink>>
         ensures { result ≡ self.back ∷ [] }
     {
@@ -66,6 +70,9 @@ impl Door for MemDoor {
 
     ghost state = { door_state };
 
+    /// Returns the first of the door's links that were not yet lent. Fails, which is counted, if no
+    /// link is left or the number of the accept, counted from 1, is one of those that were given to
+    /// the door.
     fn accept(&mut self) -> Result<MemLink, Failed>
         requires none_out { self.old.given ≡ length self.old.back }
         requires few { length self.old.back < 2 ^ 32 }
@@ -75,6 +82,7 @@ impl Door for MemDoor {
         self.links.lend()
     }
 
+    /// Appends `link`, the one that is lent, to the links that the door took back.
     fn return_link(&mut self, link: MemLink)
         requires one_out { self.old.given ≡ length self.old.back + 1 }
         ensures { self.new ≡ with_back self.old link }
@@ -83,9 +91,15 @@ impl Door for MemDoor {
     }
 }
 
-// The list at index `place`, or an empty one.
+/// Returns a copy of the list at index `place`, counted from 0, of `failing`, or an empty list if
+/// `failing` is shorter; errs if memory runs out. `failing` has a list for each door, in order: the
+/// numbers of its accepts that fail.
 #[tactic(auto, using(crate::proofs::Dealing::first_told))]
-fn told_at(alloc: Global, failing: &List<List<u64>>, place: usize) -> Result<List<u64>, Oom>
+fn failing_accepts_at(
+    alloc: Global,
+    failing: &List<List<u64>>,
+    place: usize,
+) -> Result<List<u64>, Oom>
     ensures { IfOk result (λ told. told ≡ first_list (drop place failing.now)) }
 {
     match failing.get(place) {
@@ -94,7 +108,8 @@ fn told_at(alloc: Global, failing: &List<List<u64>>, place: usize) -> Result<Lis
     }
 }
 
-// The next door, or one without links.
+/// Removes the first of `doors` and returns it, or returns a new door without links if there is
+/// none. Errs if memory runs out for the new door.
 fn next_door(alloc: Global, doors: &mut VecDeque<MemDoor>) -> Result<MemDoor, Oom>
     ensures first { IfOk result (λ door. door ≡ first_door doors.old.items) }
     ensures others { doors.new.items ≡ drop 1 doors.old.items }
@@ -134,9 +149,10 @@ impl Model for MemPort {
 }
 
 impl MemPort {
-    /// Returns a port with a door for each list of `links`, lent in this order, and after them
-    /// doors without links. Accept n of door k, counted from 1, fails if n is in list k of
-    /// `failing`, and so does each accept once the door has no link left.
+    /// Returns a port that lends a door for each list of `links`, in their order, and after them
+    /// doors without links; the links must be unused. Accept n of door k, both counted from 1,
+    /// fails if n is in list k of `failing`, and so does each accept once the door has no link
+    /// left.
     ///
     /// # Errors
     ///
@@ -152,7 +168,7 @@ impl MemPort {
         let mut doors = VecDeque::with_capacity(alloc, links.len())?;
         let mut place = 0;
         for list in links.into_vec() {
-            let told = told_at(alloc, failing, place)?;
+            let told = failing_accepts_at(alloc, failing, place)?;
             doors.push_back(MemDoor::new(alloc, list, told)?)?;
             place += 1;
         }
@@ -186,6 +202,10 @@ impl Port for MemPort {
 
     ghost state = { port_state };
 
+    /// Appends `port` to the port numbers listened at and returns the port's next doors, as many as
+    /// `doors` says, filled up with doors without links once its own are spent. Errs only if memory
+    /// runs out; the port number is not kept then, and doors that were already taken for the list
+    /// are lost.
     fn listen(&mut self, port: u16, doors: usize) -> Result<List<MemDoor>, Or<Failed>>
         ensures count { IfOk result (λ list. length list ≡ doors) }
         ensures unused { IfOk result (λ list. All IsIdle list) }
@@ -209,6 +229,9 @@ impl Port for MemPort {
         Ok(List::from_vec(list))
     }
 
+    /// Adds the count of faults of `door`, which must have no link lent, to that of the port, and
+    /// appends its returned links, if there are any, as one list to those of the port. Takes no
+    /// memory.
     fn return_door(&mut self, door: MemDoor)
         requires none_out { door.given ≡ length door.back }
         requires few { length (all_links self.old.back) + length door.back < 2 ^ 32 }

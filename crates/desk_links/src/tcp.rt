@@ -23,22 +23,26 @@ const PAUSE: u64 = 100;
 // program, and for no room for sockets.
 const LACKS: [i32; 4] = [12, 23, 24, 105];
 
-// Whether an accept failed for a reason that may pass soon.
-fn is_want(error: &Error) -> bool {
+/// Whether `error`, with which an accept failed, says that the system is short of memory, file
+/// descriptors or room for sockets, which may pass soon.
+fn is_shortage(error: &Error) -> bool {
     match error.raw_os_error() {
         Some(code) => LACKS.contains(&code),
         None => false,
     }
 }
 
-// Accepts the next stream, with up to `TRIES` tries.
+/// Returns the next connection of `listener`, for which it waits. After a connection that broke off
+/// or an interrupt it tries again at once, and where the system is short of memory, descriptors or
+/// room for sockets after a pause of 100 ms, for which `clock` sleeps. `None` if an accept fails
+/// with any other error, or if 100 accepts have failed.
 fn next_stream<C: Clock>(clock: &C, listener: &TcpListener) -> Option<TcpStream> {
     for _ in 0..TRIES {
         match listener.accept() {
             Ok((stream, _address)) => return Some(stream),
             Err(error) => match error.kind() {
                 ErrorKind::ConnectionAborted | ErrorKind::Interrupted => {}
-                _ if is_want(&error) => clock.sleep(Duration::from_millis(PAUSE)),
+                _ if is_shortage(&error) => clock.sleep(Duration::from_millis(PAUSE)),
                 _ => return None,
             },
         }
@@ -63,6 +67,10 @@ impl<C: Clock + Copy + Send + Drop> Door for TcpDoor<C> {
 
     ghost state = { λ d. untold_door d.given d.returned d.faults };
 
+    /// Waits for the next connection and returns it as a link with the time limits of one that
+    /// serves calls. Fails, which is counted, if 100 accepts of the system fail, or one fails for
+    /// another reason than a connection that broke off, an interrupt, or a lack of memory,
+    /// descriptors or room for sockets.
     fn accept(&mut self) -> Result<TcpLink<C>, Failed> {
         match next_stream(&self.clock, &self.listener) {
             Some(stream) => {
@@ -76,6 +84,8 @@ impl<C: Clock + Copy + Send + Drop> Door for TcpDoor<C> {
         }
     }
 
+    /// Closes `link` and counts it as returned. If the last thing done on it was to write the end
+    /// of an answer, it first waits, up to 2 s, for the other side to take that.
     fn return_link(&mut self, link: TcpLink<C>) {
         link.close();
         self.returned += 1;
@@ -92,7 +102,7 @@ pub struct TcpPort<R> {
 }
 
 impl<R: Net<Listener = TcpListener, Stream = TcpStream>> TcpPort<R> {
-    /// Returns a port over the runtime's network.
+    /// Returns a port over the runtime's network `net`, which has listened at no port number.
     pub fn new(alloc: Global, net: R) -> Self
         ensures faults { result.faults ≡ 0 }
         ensures returned { result.returned ≡ 0 }
@@ -106,7 +116,8 @@ impl<R: Net<Listener = TcpListener, Stream = TcpStream>> TcpPort<R> {
     }
 }
 
-// Returns `doors` doors over one listener.
+/// Returns a list of as many unused doors as `doors` says, all of which accept from `listener` and
+/// pause by `clock`. Errs if memory runs out.
 fn doors_over<C: Clock + Copy>(
     alloc: Global,
     clock: C,
@@ -139,6 +150,9 @@ impl<R: Net<Listener = TcpListener, Stream = TcpStream> + Clock + Copy + Send + 
 
     ghost state = { λ p. untold_port p.returned p.faults };
 
+    /// Binds port number `port` of 127.0.0.1 and returns as many unused doors as `doors` says,
+    /// which share its listener. `No(Failed)`, which is counted, means that the port number can't
+    /// be bound, and `OutOfMemory` that memory ran out.
     fn listen(&mut self, port: u16, doors: usize) -> Result<List<TcpDoor<R>>, Or<Failed>> {
         let address = SocketAddr::V4(SocketAddrV4::new(Ipv4Addr::LOCALHOST, port));
         match self.net.bind(address) {
@@ -150,6 +164,8 @@ impl<R: Net<Listener = TcpListener, Stream = TcpStream> + Clock + Copy + Send + 
         }
     }
 
+    /// Adds the door's counts of faults and of returned links to those of the port, and drops the
+    /// door.
     fn return_door(&mut self, door: TcpDoor<R>) {
         self.faults = self.faults.saturating_add(door.faults);
         self.returned += door.returned;

@@ -1,5 +1,5 @@
 //! The dialer of the system, over TCP on 127.0.0.1. It is trusted.
-ghost use Rattle.std.specs.Prelude.{◌≡◌, ◌≢◌, ◌<◌, ◌++◌, [], take, None, length, IfOk, OnOk};
+ghost use Rattle.std.specs.Prelude.{◌≡◌, ◌≢◌, ◌<◌, ◌++◌, [], take, length, IfOk};
 ghost use Rattle.byte_streams.specs.Flows.{Reads};
 ghost use Rattle.desk_links.specs.Links.{HandsOut};
 ghost use Rattle.desk_links.specs.LinkLaws.{untold_input, untold_output};
@@ -26,6 +26,10 @@ impl<C: Clock> Source for TcpPeer<C> {
 
     ghost reads = { λ old new. new.link.write_faults ≡ old.link.write_faults };
 
+    /// Copies bytes received earlier to the start of `into`, or if there are none receives up to
+    /// 4,096 bytes and copies the first of them, and returns how many were copied. Fails, which is
+    /// counted, if receiving fails or goes past its time limit, or if the other side's bytes have
+    /// ended and `into` is not empty.
     fn read(&mut self, into: &mut [u8]) -> Result<usize, Failed>
         ensures read { Reads (untold_input self.old.link.read_faults)
             (untold_input self.new.link.read_faults) result into.new }
@@ -60,6 +64,8 @@ impl<C: Clock> Sink for TcpPeer<C> {
     ghost more_writes = { λ old mid new first second. count_kept
         old.link.read_faults mid.link.read_faults new.link.read_faults first second };
 
+    /// Writes a prefix of `bytes` to the connection and returns its length, at least 1 unless
+    /// `bytes` is empty. Fails, which is counted, if the write fails or goes past its time limit.
     fn write(&mut self, bytes: &[u8]) -> Result<usize, Failed> {
         self.link.write(bytes)
     }
@@ -91,10 +97,15 @@ impl<C: Clock> Peer for TcpPeer<C> {
 
     ghost held_first = { λ _. tt };
 
+    /// Returns the bytes that were received from the system and not yet handed out, at most 4,096.
     fn waiting(&self) -> &[u8] {
         self.ahead.as_slice()
     }
 
+    /// Copies bytes received earlier to the start of `into`, which must not be empty, or if there
+    /// are none receives up to 4,096 bytes and copies the first of them, and returns how many were
+    /// copied. Fails, which is counted, if receiving fails or goes past its time limit, or if the
+    /// other side's bytes have ended.
     fn read_some(&mut self, into: &mut [u8]) -> Result<usize, Failed> {
         self.read(into)
     }
@@ -111,7 +122,8 @@ pub struct TcpDialer<R> {
 }
 
 impl<R: Net<Listener = TcpListener, Stream = TcpStream>> TcpDialer<R> {
-    /// Returns a dialer of `port` over the runtime's network.
+    /// Returns a dialer of port number `port` of 127.0.0.1, over the runtime's network, that has
+    /// lent no link.
     pub fn new(net: R, port: u16) -> Self
         ensures faults { result.faults ≡ 0 }
         ensures given { result.given ≡ 0 }
@@ -135,6 +147,9 @@ impl<R: Net<Listener = TcpListener, Stream = TcpStream> + Clock + Copy + Send + 
 
     ghost state = { λ d. untold_door d.given d.returned d.faults };
 
+    /// Connects to the dialer's port number of 127.0.0.1 and returns the connection as a link, each
+    /// read of which may wait up to 30 s, as may the writes of one call together. Fails, which is
+    /// counted, if no connection comes about.
     fn dial(&mut self) -> Result<TcpPeer<R>, Failed> {
         let address = SocketAddr::V4(SocketAddrV4::new(Ipv4Addr::LOCALHOST, self.port));
         match self.net.connect(address) {
@@ -152,6 +167,8 @@ impl<R: Net<Listener = TcpListener, Stream = TcpStream> + Clock + Copy + Send + 
         }
     }
 
+    /// Adds the numbers of failed reads and failed writes of `link` to the dialer's count of
+    /// faults, counts the link as returned, and drops it, which closes it.
     fn return_link(&mut self, link: TcpPeer<R>) {
         let count = link.link.read_faults.saturating_add(link.link.write_faults);
         self.faults = self.faults.saturating_add(count);

@@ -81,8 +81,9 @@ struct Wire<C> {
     write_wait: Duration,
 }
 
-// Whether a read or write that failed with this kind of error may be tried again.
-fn may_go_on(kind: ErrorKind) -> bool {
+/// Whether a read that failed with an error of this kind may be tried again: it was interrupted or
+/// timed out. `false` means that it failed for good.
+fn may_read_again(kind: ErrorKind) -> bool {
     match kind {
         ErrorKind::Interrupted | ErrorKind::WouldBlock | ErrorKind::TimedOut => true,
         _ => false,
@@ -90,7 +91,8 @@ fn may_go_on(kind: ErrorKind) -> bool {
 }
 
 impl Side {
-    // The longest wait of one read.
+    /// Returns the longest wait of one read: 5 s for a link that serves calls, 30 s for one that
+    /// was dialled.
     fn read_wait(self) -> Duration {
         match self {
             Side::Serves => Duration::from_secs(IDLE),
@@ -98,7 +100,8 @@ impl Side {
         }
     }
 
-    // The longest wait of one write.
+    /// Returns the longest wait of one write: 3 s for a link that serves calls, 30 s for one that
+    /// was dialled.
     fn write_wait(self) -> Duration {
         match self {
             Side::Serves => Duration::from_secs(WRITE),
@@ -106,7 +109,9 @@ impl Side {
         }
     }
 
-    // The seconds of an answer before its bytes add to them.
+    /// Returns the seconds that the writing of a whole answer may take, or of a whole call on a
+    /// link that was dialled, before its bytes add to them: 5 for a link that serves calls, 30 for
+    /// one that was dialled.
     fn answer_seconds(self) -> u64 {
         match self {
             Side::Serves => ANSWER,
@@ -116,15 +121,15 @@ impl Side {
 }
 
 impl Pace {
-    // The time limit: `seconds` after the start, and one second more for every `BYTES_A_SECOND`
-    // bytes so far, at most `MOST` in all.
+    /// Returns the time limit of the call or answer, on the clock of its start: `seconds` after its
+    /// start, and one second more for every 1,024 bytes so far, but at most 30 s after its start.
     fn end(&self, seconds: u64) -> Duration {
         let more = self.count / BYTES_A_SECOND;
         let all = Duration::from_secs(seconds.saturating_add(more).min(MOST));
         self.first.saturating_add(all)
     }
 
-    // The progress with `count` bytes more.
+    /// Returns the progress with the same start and `count` bytes more.
     fn with(&self, count: usize) -> Self {
         Pace {
             first: self.first,
@@ -134,7 +139,8 @@ impl Pace {
 }
 
 impl<C: Clock> Wire<C> {
-    // Settings that the system refuses are passed over.
+    /// Returns a wire over `stream`, on which nothing was read or written, with the timeouts of
+    /// `side` and without delay of small writes. Settings that the system refuses are passed over.
     fn new(clock: C, stream: TcpStream, side: Side) -> Self {
         let read_wait = side.read_wait();
         let write_wait = side.write_wait();
@@ -153,13 +159,17 @@ impl<C: Clock> Wire<C> {
         }
     }
 
-    // The time since some fixed start. Where the clock can't be read it does not advance, and only
-    // the limits of single waits hold.
+    /// Returns the time since some fixed start, or zero if the clock can't be read. In that case
+    /// the time does not advance, and only the limits of single waits hold.
     fn now(&self) -> Duration {
         self.clock.monotonic().unwrap_or(Duration::ZERO)
     }
 
-    // The time limit of a read that begins now.
+    /// Returns the time at which a read that begins at `now` must end, both times of the link's
+    /// clock. If a call is being read, that is 10 s after its first byte and one second more for
+    /// every full 1,024 bytes of it so far, but at most 30 s after it. Else it is `now` plus the
+    /// longest wait of one read, 5 s for a link that serves calls and 30 s for one that was
+    /// dialled.
     fn read_end(&self, now: Duration) -> Duration {
         match &self.call {
             Some(call) => call.end(CALL),
@@ -167,7 +177,8 @@ impl<C: Clock> Wire<C> {
         }
     }
 
-    // The time left until `end`, at most `most`, or `None` if it has passed.
+    /// Returns the time from now until `end`, a time of the link's clock, but at most `most`;
+    /// `None` if `end` has come.
     fn wait_until(&self, end: Duration, most: Duration) -> Option<Duration> {
         let left = end.saturating_sub(self.now());
         if left.is_zero() {
@@ -176,7 +187,8 @@ impl<C: Clock> Wire<C> {
         Some(left.min(most))
     }
 
-    // Sets the read timeout, if it differs from the present one.
+    /// Sets the stream's read timeout to `wait`, unless it has that value. A refusal by the system
+    /// is passed over.
     fn set_read_wait(&mut self, wait: Duration) {
         if wait != self.read_wait {
             let _ = self.stream.set_read_timeout(Some(wait));
@@ -184,6 +196,8 @@ impl<C: Clock> Wire<C> {
         }
     }
 
+    /// Sets the stream's write timeout to `wait`, unless it has that value. A refusal by the system
+    /// is passed over.
     fn set_write_wait(&mut self, wait: Duration) {
         if wait != self.write_wait {
             let _ = self.stream.set_write_timeout(Some(wait));
@@ -191,8 +205,9 @@ impl<C: Clock> Wire<C> {
         }
     }
 
-    // Adds `count` bytes to the call that is being read, or begins a call with them. A link that
-    // was dialled reads no calls.
+    /// Adds `count` bytes that were read to the call that is being read, or begins a call with them
+    /// at `now`, a time of the link's clock, if no call is being read. Does nothing for 0 bytes, or
+    /// on a link that was dialled, which reads no calls.
     fn note_read(&mut self, count: usize, now: Duration) {
         if count == 0 || self.side == Side::Asks {
             return;
@@ -207,8 +222,9 @@ impl<C: Clock> Wire<C> {
         self.call = Some(before.with(count));
     }
 
-    // Reads into the start of `into` and returns how many bytes, or `None` if the read failed or
-    // its time was over.
+    /// Reads into the start of `into` and returns how many bytes, or `None` if the read failed,
+    /// went past its time limit, or was interrupted or timed out early 64 times. 0 for a non-empty
+    /// `into` means the end of the input. Ends the answer that was being written.
     fn receive(&mut self, into: &mut [u8]) -> Option<usize>
         ensures { IfSome result (λ n. n ≤ length into.new) }
     {
@@ -224,7 +240,7 @@ impl<C: Clock> Wire<C> {
                     return Some(count);
                 }
                 Err(error) => {
-                    if !may_go_on(error.kind()) {
+                    if !may_read_again(error.kind()) {
                         return None;
                     }
                 }
@@ -233,7 +249,9 @@ impl<C: Clock> Wire<C> {
         None
     }
 
-    // The progress of the answer that is written now. What is read after it is another call.
+    /// Returns the start of the answer that is being written and the number of its bytes so far; if
+    /// no answer is being written, now and 0. Ends the call that was being read, so that what is
+    /// read next is another call.
     fn answer_pace(&mut self) -> Pace {
         self.call = None;
         self.answered = false;
@@ -246,8 +264,10 @@ impl<C: Clock> Wire<C> {
         }
     }
 
-    // Adds `count` written bytes to the answer. `whole` says that they end it; an ended answer that
-    // was taken quickly is forgotten.
+    /// Records that `count` bytes of an answer were written, where `pace` is its start and its
+    /// bytes before them. `whole` is whether they end the answer. An answer that ended less than 1
+    /// s after its start is forgotten, and after any other, what is written next with no read
+    /// between counts as more of it.
     fn note_write(&mut self, pace: &Pace, count: usize, whole: bool) {
         let spent = self.now().saturating_sub(pace.first);
         let is_quick = spent < Duration::from_secs(QUICK);
@@ -259,8 +279,9 @@ impl<C: Clock> Wire<C> {
         };
     }
 
-    // Writes a prefix of `bytes` and returns its length, at least 1 unless `bytes` is empty, or
-    // `None` if the write failed or its time was over.
+    /// Writes a prefix of `bytes` and returns its length, at least 1 unless `bytes` is empty, or
+    /// `None` if the write failed, went past its time limit or was interrupted 64 times. Ends the
+    /// call that was being read.
     fn send(&mut self, bytes: &[u8]) -> Option<usize>
         ensures { IfSome result (λ n. (n ≤ length bytes.now) × (0 < length bytes.now → 0 < n)) }
     {
@@ -281,8 +302,10 @@ impl<C: Clock> Wire<C> {
         None
     }
 
-    // After a whole answer, ends the output and reads what the other side still sends, within
-    // limits. If the link closed with unread bytes the other side might lose the answer.
+    /// Shuts down the output and reads what the other side still sends, since it might lose the
+    /// last answer if the link closed with unread bytes. Ends after 2 s in all, 1 s without bytes,
+    /// or 4,096 reads. Does nothing unless the last read or write on the link wrote the end of an
+    /// answer.
     fn linger(&mut self) {
         if !self.answered || self.stream.shutdown(Shutdown::Write).is_err() {
             return;
@@ -320,6 +343,8 @@ pub struct TcpLink<C> {
 }
 
 impl<C: Clock> TcpLink<C> {
+    /// Returns a link over `stream` none of whose reads and writes has failed. `side` says whether
+    /// the link serves calls or was dialled, which sets its time limits; `clock` measures them.
     pub(crate) fn over(clock: C, stream: TcpStream, side: Side) -> Self
         ensures read { result.read_faults ≡ 0 }
         ensures write { result.write_faults ≡ 0 }
@@ -333,7 +358,8 @@ impl<C: Clock> TcpLink<C> {
 }
 
 impl<C: Clock + Drop> TcpLink<C> {
-    // Closes the link, and waits within limits for the other side to take the last answer.
+    /// Closes the link. If the last thing done on it was to write the end of an answer, it first
+    /// waits, at most 2 s, for the other side to take that.
     pub(crate) fn close(self) {
         let mut link = self;
         link.wire.linger();
@@ -345,6 +371,9 @@ impl<C: Clock> Source for TcpLink<C> {
 
     ghost reads = { λ old new. new.write_faults ≡ old.write_faults };
 
+    /// Reads from the connection into the start of `into` and returns how many bytes, 0 for a
+    /// non-empty `into` at the end of the input. Fails, which is counted, if the read fails or goes
+    /// past a time limit of the link.
     fn read(&mut self, into: &mut [u8]) -> Result<usize, Failed> {
         match self.wire.receive(into) {
             Some(count) => Ok(count),
@@ -368,6 +397,9 @@ impl<C: Clock> Sink for TcpLink<C> {
     ghost more_writes = { λ old mid new first second. count_kept
         old.read_faults mid.read_faults new.read_faults first second };
 
+    /// Writes a prefix of `bytes` to the connection and returns its length, at least 1 unless
+    /// `bytes` is empty. Fails, which is counted, if the write fails or goes past a time limit of
+    /// the link.
     fn write(&mut self, bytes: &[u8]) -> Result<usize, Failed> {
         match self.wire.send(bytes) {
             Some(count) => Ok(count),

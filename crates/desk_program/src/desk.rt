@@ -13,9 +13,9 @@ use hazard_types::{List, Text};
 use program_ends::{End, end_at_once};
 use std::alloc::Global;
 
-/// Runs the command of the arguments `words`, with an input of at most `limit` bytes, and returns
-/// the exit status and the disk. `dry` and `drill` leave the disk unused; words that are no command
-/// end with `Usage`.
+/// Runs the command that the arguments `words` name, with an input of at most `limit` bytes, and
+/// returns the exit status and the disk. `dry` and `drill` leave the disk unused. Words that are no
+/// command write the line of the fault `Usage` and have its status.
 pub fn desk_within<S: Source, K: Sink, D: Disk, C: Clock>(
     alloc: Global,
     words: &List<Text>,

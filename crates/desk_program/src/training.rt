@@ -11,10 +11,9 @@ use office_core::{a_request_has_one_answer, offices_begin_in_agreement};
 use program_ends::{End, end_at_once, run_lines};
 use std::alloc::Global;
 
-/// Answers each line of an input of at most `limit` bytes by a training office, and returns the
-/// exit status.
-///
-/// docs/TRAINING.md, and docs/DECISIONS.md, "Training lines".
+/// Writes the answer of a training office to each line of an input of at most `limit` bytes, and
+/// returns the exit status. A line describes an issue, and its answer is the text of the product or
+/// the refusal. `dry` gives the office's code and the minute of all products.
 pub fn run_training<S: Source, K: Sink>(
     alloc: Global,
     dry: &Dry,

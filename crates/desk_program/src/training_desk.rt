@@ -40,7 +40,7 @@ impl Model for TrainingDesk {
     ghost invariant = { λ d. IsTraining d.office.state d.at };
 }
 
-/// The desk whose issues the lines are.
+/// Returns the desk `DRY`, the one desk of a training office, which issues all of its products.
 fn dry_desk() -> Desk
     ensures { result ≡ dry_desk }
 {
@@ -50,7 +50,7 @@ fn dry_desk() -> Desk
     }
 }
 
-/// A copy of the text of the prepared product.
+/// Returns a copy of the text of a prepared product. The prepared request must have made one.
 fn product_text(prepared: &Prepared) -> Result<Text, Oom>
     requires { IsSome prepared.now.made }
     ensures { IfOk result
@@ -62,8 +62,9 @@ fn product_text(prepared: &Prepared) -> Result<Text, Oom>
     }
 }
 
-/// Commits an accepted issue and returns the text of its product. The text is copied before the
-/// commit, so that the office is unchanged on `Oom`.
+/// Commits a prepared issue to the office and returns the text of its product as the reply. The
+/// issue must have made one. The text is copied before the commit, so on `Oom` the office is
+/// unchanged.
 fn accept(office: &mut Office, prepared: Prepared) -> Result<Reply, Oom>
     requires may { MayCommit office.old prepared }
     requires made { IsSome prepared.made }
@@ -81,7 +82,7 @@ fn accept(office: &mut Office, prepared: Prepared) -> Result<Reply, Oom>
     Ok(Reply::Whole(text))
 }
 
-/// The line of a refusal.
+/// Returns the reply to a line that is refused: the JSON text of the refusal, as a line.
 fn refusal_reply(alloc: Global, refusal: &Refusal) -> Result<Reply, Oom>
     ensures { IfOk result (λ reply. bytes_of reply ≡ refusal_line refusal.now) }
 {
@@ -89,7 +90,8 @@ fn refusal_reply(alloc: Global, refusal: &Refusal) -> Result<Reply, Oom>
     Ok(Reply::Line(text))
 }
 
-/// The answer to an issue at a minute.
+/// Issues the product of `part` at minute `at` and returns its text as the reply, or the refusal as
+/// a line of JSON. The office is unchanged if the issue is refused, and on `Oom`.
 fn answer_issue(alloc: Global, office: &mut Office, at: Minute, part: PutPart) -> Result<Reply, Oom>
     requires form { IsIssuePart part }
     requires training { IsTraining office.old.state at }
@@ -113,7 +115,8 @@ fn answer_issue(alloc: Global, office: &mut Office, at: Minute, part: PutPart) -
 }
 
 impl TrainingDesk {
-    /// Returns a training office before its first line.
+    /// Returns the training office of `dry`, without products, which answers each line at the
+    /// minute of `dry`.
     ///
     /// # Errors
     ///

@@ -4,7 +4,7 @@ ghost use Rattle.desk_program.specs.Words.{IsCommand, parse_board_words, command
 ghost use Rattle.desk_program.specs.Words.{parse_dry_words, parse_one_word, parse_three_words};
 
 use desk_drill::{Drill, parse_drill};
-use hazard_types::{List, Minute, Text, read_stamp};
+use hazard_types::{List, Minute, Text, parse_stamp};
 use program_ends::office_of;
 
 /// Training for an office at a minute.
@@ -33,7 +33,8 @@ pub enum Command {
     Drill(Drill),
 }
 
-/// The command of one word.
+/// Returns the command `init`, `script`, `export`, `upgrade` or `board`, or `None` for another
+/// word.
 fn parse_one_word(word: &[u8]) -> Option<Command>
     ensures { result ≡ parse_one_word word.now }
 {
@@ -52,18 +53,20 @@ fn parse_one_word(word: &[u8]) -> Option<Command>
     }
 }
 
-/// The command `board --at STAMP`.
+/// Returns the command `board --at STAMP`, or `None` if the words are not `board`, `--at` and a
+/// stamp, such as `180103T1530Z`.
 fn parse_board_words(command: &[u8], option: &[u8], stamp: &[u8]) -> Option<Command>
     ensures { result ≡ parse_board_words command.now option.now stamp.now }
 {
     if command != b"board".as_slice() || option != b"--at".as_slice() {
         return None;
     }
-    let minute = read_stamp(stamp)?;
+    let minute = parse_stamp(stamp)?;
     Some(Command::Board(Some(minute)))
 }
 
-/// The command `dry OFFICE STAMP`.
+/// Returns the command `dry OFFICE STAMP`, or `None` if the words are not `dry`, an office's code,
+/// such as `KLWX`, and a stamp, such as `180103T1530Z`.
 fn parse_dry_words(command: &[u8], office: &[u8], stamp: &[u8]) -> Option<Command>
     ensures value { result ≡ parse_dry_words command.now office.now stamp.now }
     ensures forms { IfSome result IsCommand }
@@ -72,11 +75,12 @@ fn parse_dry_words(command: &[u8], office: &[u8], stamp: &[u8]) -> Option<Comman
         return None;
     }
     let office = office_of(office)?;
-    let minute = read_stamp(stamp)?;
+    let minute = parse_stamp(stamp)?;
     Some(Command::Dry(Dry { office, minute }))
 }
 
-/// The command `drill NUMBER COUNT`.
+/// Returns the command `drill NUMBER COUNT`, or `None` if the words are not `drill`, a decimal
+/// number below 2^64 and a decimal number of at most 8,192.
 fn parse_drill_words(command: &[u8], number: &[u8], count: &[u8]) -> Option<Command>
     ensures value { result ≡ parse_drill_words command.now number.now count.now }
     ensures forms { IfSome result IsCommand }
@@ -85,7 +89,8 @@ fn parse_drill_words(command: &[u8], number: &[u8], count: &[u8]) -> Option<Comm
     Some(Command::Drill(drill))
 }
 
-/// The command of three words.
+/// Returns the command `board --at STAMP`, `dry OFFICE STAMP` or `drill NUMBER COUNT`, or `None`
+/// for other words.
 fn parse_three_words(first: &[u8], second: &[u8], third: &[u8]) -> Option<Command>
     ensures value { result ≡ parse_three_words first.now second.now third.now }
     ensures forms { IfSome result IsCommand }
@@ -101,8 +106,9 @@ fn parse_three_words(first: &[u8], second: &[u8], third: &[u8]) -> Option<Comman
     parse_drill_words(first, second, third)
 }
 
-/// Parses the arguments. `None` exactly if they are none of these commands; `serve` is parsed by
-/// `serve_command`.
+/// Returns the command that the arguments name: `init`, `script`, `export`, `upgrade`, `board`,
+/// `board --at STAMP`, `dry OFFICE STAMP` or `drill NUMBER COUNT`. It is `None` if they are
+/// anything else, `serve` too, which `parse_serve_args` parses.
 #[tactic(auto, unfolding(crate::specs::Words::command_of))]
 pub fn command_of(words: &List<Text>) -> Option<Command>
     ensures value { result ≡ command_of words.now }

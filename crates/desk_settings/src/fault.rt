@@ -26,7 +26,7 @@ pub enum SettingsFault {
     TooLong,
 }
 
-/// Returns the key as a string.
+/// Returns the key as a string, or `?` if it is not UTF-8.
 fn name_of(key: &Text) -> &str {
     str::from_utf8(key.as_slice()).unwrap_or("?")
 }

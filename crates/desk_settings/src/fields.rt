@@ -1,10 +1,10 @@
 //! Reads each field of the settings from its value.
-ghost use Rattle.std.specs.Prelude.{◌≡◌, option_map, option_and_then, IfOk, List as Seq, [], Err};
+ghost use Rattle.std.specs.Prelude.{◌≡◌, option_map, option_and_then, IfOk, Err};
 ghost use Rattle.hazard_types.specs.Given.{Gives};
 ghost use Rattle.toml.specs.Data.{as_str};
-ghost use Rattle.toml.specs.View.{view, items_view, members_view, table_view};
+ghost use Rattle.toml.specs.View.{view, items_view, table_view};
 ghost use Rattle.desk_settings.specs.Keys.{key_name};
-ghost use Rattle.desk_settings.specs.Reading.{zone_name_in, names_of, few_desks, desks_in, zone_pairs, in_order, few_zones, zones_in, office_field, site_field, line_field, zone_field, desks_field, heading_field, headings_field, zones_field};
+ghost use Rattle.desk_settings.specs.Reading.{zone_name_in, names_of, desks_in, zone_pairs, in_order, zones_in, office_field, site_field, line_field, zone_field, desks_field, heading_field, headings_field, zones_field};
 ghost use Rattle.desk_settings.specs.declared.fault.SettingsFault.TheVariants.{BadValue};
 
 use crate::fault::SettingsFault;
@@ -21,7 +21,7 @@ const DESKS_MOST: usize = 64;
 /// The greatest number of zones.
 const ZONES_MOST: usize = 2_000;
 
-/// Returns the fault `BadValue` of a key.
+/// Returns `Err` in every case: `BadValue` with the name of `key`, or out of memory.
 fn bad_value<T>(alloc: Global, key: Key) -> Result<T, Or<SettingsFault>>
     ensures { Gives result (Err (BadValue (key_name key))) }
 {
@@ -29,7 +29,9 @@ fn bad_value<T>(alloc: Global, key: Key) -> Result<T, Or<SettingsFault>>
     Err(Or::No(SettingsFault::BadValue { key }))
 }
 
-/// Returns the office.
+/// Returns the office's code, four characters of A-Z and 0-9 as `KLWX`, which is the value of the
+/// key `office` of the document `table`. A value of another form and a missing key are both
+/// `BadValue`.
 ///
 /// # Errors
 ///
@@ -43,7 +45,8 @@ pub fn office_field(alloc: Global, table: &Table) -> Result<[u8; 4], Or<Settings
     }
 }
 
-/// Returns the site.
+/// Returns the site, three characters of A-Z and 0-9 as `LWX`, which is the value of the key `site`
+/// of the document `table`. A value of another form and a missing key are both `BadValue`.
 ///
 /// # Errors
 ///
@@ -57,7 +60,9 @@ pub fn site_field(alloc: Global, table: &Table) -> Result<[u8; 3], Or<SettingsFa
     }
 }
 
-/// Returns the office line.
+/// Returns the line below a product's name, which is the value of the key `office_line` of the
+/// document `table`: 1 to 66 printable characters without a digit, the first a letter. A value of
+/// another form and a missing key are both `BadValue`.
 ///
 /// # Errors
 ///
@@ -73,7 +78,8 @@ pub fn line_field(alloc: Global, table: &Table) -> Result<Text, Or<SettingsFault
     }
 }
 
-/// Returns the zone of local times.
+/// Returns the zone of local times, as `Eastern`, which the key `zone` of the document `table`
+/// names. Another value and a missing key are both `BadValue`.
 ///
 /// # Errors
 ///
@@ -87,6 +93,9 @@ pub fn zone_field(alloc: Global, table: &Table) -> Result<LocalZone, Or<Settings
     }
 }
 
+/// Returns the start of the heading line of a category, as `WWUS41`, from the table `headings` of
+/// the document `table`. Errs with `BadValue` if the value is missing or is not four capital
+/// letters and two digits, or out of memory.
 fn heading_field(
     alloc: Global,
     table: &Table,
@@ -101,7 +110,9 @@ fn heading_field(
     }
 }
 
-/// Returns the eight headings, in the order of `Category`.
+/// Returns the starts of the heading lines of the eight categories, as `WWUS41`, in the order of
+/// `Category`, from the table `headings` of the document `table`. A missing value is `BadValue`
+/// too.
 ///
 /// # Errors
 ///
@@ -121,7 +132,8 @@ pub fn headings_field(alloc: Global, table: &Table) -> Result<[[u8; 6]; 8], Or<S
     Ok([wsw, npw, rfw, cfw, mww, ffa, flw, fls])
 }
 
-/// Returns the desks that the items name, or `None` if an item is not the name of a desk.
+/// Returns the desks that the items of a TOML list name, in the order of the items, or `None` if an
+/// item is not the name of a desk.
 fn desks_of(alloc: Global, items: &[Value]) -> Result<Option<List<Desk>>, Oom>
     ensures { IfOk result (λ desks. desks ≡ names_of (items_view items.now)) }
 {
@@ -135,7 +147,8 @@ fn desks_of(alloc: Global, items: &[Value]) -> Result<Option<List<Desk>>, Oom>
     Ok(Some(desks))
 }
 
-/// Returns the desks of a list of 1 to 64 names, or `None` if the value is not such a list.
+/// Returns the desks of a TOML list of 1 to 64 names of desks, in the order of the list, or `None`
+/// if the value is not such a list.
 fn desks_in(alloc: Global, value: &Value) -> Result<Option<List<Desk>>, Oom>
     ensures { IfOk result (λ desks. desks ≡ desks_in (view value.now)) }
 {
@@ -152,7 +165,9 @@ fn desks_in(alloc: Global, value: &Value) -> Result<Option<List<Desk>>, Oom>
     }
 }
 
-/// Returns the desks, in the order of the list.
+/// Returns the desks that the key `desks` of the document `table` lists, in the order of the list.
+/// A value that is no list of 1 to 64 names of desks and a missing key are both `BadValue`; a desk
+/// may be in the list twice.
 ///
 /// # Errors
 ///
@@ -169,7 +184,8 @@ pub fn desks_field(alloc: Global, table: &Table) -> Result<List<Desk>, Or<Settin
     }
 }
 
-/// Returns the name of a zone, or `None` if the value is not one.
+/// Returns the text of a TOML string that has the form of a zone's name, or `None` if it has
+/// another form or the value is no string.
 fn zone_name_in(value: &Value) -> Option<&str>
     ensures { option_map (λ s. s.now) result
         ≡ option_and_then zone_name_in (as_str (view value.now)) }
@@ -186,8 +202,9 @@ fn zone_name_in(value: &Value) -> Option<&str>
     }
 }
 
-/// Returns the zones of a table with their names, in order, or `None` if a key is not a zone or a
-/// value not the name of one.
+/// Returns the zones that are the keys of a TOML table, each with its value, the zone's name, in
+/// the order of zones. `None` if a key is not a zone, or a value does not have the form of a zone's
+/// name.
 fn zones_of(alloc: Global, table: &Table) -> Result<Option<List<(Zone, Text)>>, Oom>
     ensures { IfOk result
         (λ zones. zones ≡ option_map in_order (zone_pairs (table_view table.now))) }
@@ -206,7 +223,8 @@ fn zones_of(alloc: Global, table: &Table) -> Result<Option<List<(Zone, Text)>>, 
     Ok(Some(zones))
 }
 
-/// Returns the zones of a table of 1 to 2,000 zones, or `None` if the value is not such a table.
+/// Returns the zones of a TOML table of 1 to 2,000 zones with their names, in the order of zones,
+/// or `None` if the value is not such a table.
 fn zones_in(alloc: Global, value: &Value) -> Result<Option<List<(Zone, Text)>>, Oom>
     ensures { IfOk result (λ zones. zones ≡ zones_in (view value.now)) }
 {
@@ -223,7 +241,9 @@ fn zones_in(alloc: Global, value: &Value) -> Result<Option<List<(Zone, Text)>>, 
     }
 }
 
-/// Returns the zones with their names, in the order of zones.
+/// Returns the zones that the table `zones` of the document `table` has, each with its name, in the
+/// order of zones. A value that is no table of 1 to 2,000 zones and a missing key are both
+/// `BadValue`.
 ///
 /// # Errors
 ///

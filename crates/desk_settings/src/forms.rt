@@ -5,7 +5,7 @@ ghost use Rattle.std.specs.Prelude.{◌≡◌};
 ghost use Rattle.std.specs.List.{list_all};
 ghost use Rattle.hazard_types.specs.Calendar.{is_digit};
 ghost use Rattle.hazard_types.specs.Places.{is_capital};
-ghost use Rattle.desk_settings.specs.Forms.{begins_with_letter, is_site, is_line_byte, is_office_line, is_zone_name_byte, is_zone_name, is_heading, office_in, site_in, parse_ttaaii, local_zone_in};
+ghost use Rattle.desk_settings.specs.Forms.{begins_with_letter, is_line_byte, is_office_line, is_zone_name_byte, is_zone_name, is_heading, office_in, site_in, parse_ttaaii, local_zone_in};
 
 use hazard_types::{LocalZone, is_name_byte, is_printable};
 
@@ -15,7 +15,8 @@ const LINE_MOST: usize = 66;
 /// The greatest length of a zone's name, in characters.
 const NAME_MOST: usize = 40;
 
-/// Returns the office, if `text` is four characters of A-Z and 0-9.
+/// Returns `text` as an office's code, as `KLWX`, if it is four characters of A-Z and 0-9, else
+/// `None`.
 pub fn office_in(text: &[u8]) -> Option<[u8; 4]>
     ensures { result ≡ office_in text.now }
 {
@@ -29,7 +30,7 @@ pub fn office_in(text: &[u8]) -> Option<[u8; 4]>
     }
 }
 
-/// Returns the site, if `text` is three characters of A-Z and 0-9.
+/// Returns `text` as a site, as `LWX`, if it is three characters of A-Z and 0-9, else `None`.
 pub fn site_in(text: &[u8]) -> Option<[u8; 3]>
     ensures { result ≡ site_in text.now }
 {
@@ -43,27 +44,29 @@ pub fn site_in(text: &[u8]) -> Option<[u8; 3]>
     }
 }
 
+/// Whether all bytes are letters A to Z.
 fn are_capitals(bytes: &[u8]) -> bool
     ensures { result ≡ list_all is_capital bytes.now }
 {
     bytes.iter().all(|byte| byte.is_ascii_uppercase())
 }
 
+/// Whether all bytes are digits.
 fn are_digits(bytes: &[u8]) -> bool
     ensures { result ≡ list_all is_digit bytes.now }
 {
     bytes.iter().all(|byte| byte.is_ascii_digit())
 }
 
-/// Whether the bytes are four capital letters and two digits.
+/// Whether the bytes are four letters A to Z and after them two digits, as `WWUS41`.
 fn is_heading(text: &[u8]) -> bool
     ensures { result ≡ is_heading text.now }
 {
     text.len() == 6 && are_capitals(&text[..4]) && are_digits(&text[4..])
 }
 
-/// Returns the start of a heading line, if `text` is four capital letters and two digits, as
-/// `WWUS41`.
+/// Returns `text` as the start of a heading line, as `WWUS41`, if it is four capital letters and
+/// after them two digits, else `None`.
 pub fn parse_ttaaii(text: &[u8]) -> Option<[u8; 6]>
     ensures { result ≡ parse_ttaaii text.now }
 {
@@ -77,7 +80,7 @@ pub fn parse_ttaaii(text: &[u8]) -> Option<[u8; 6]>
     }
 }
 
-/// Returns the zone of local times with this name, as `Eastern`.
+/// Returns the zone of local times with this name, as `Eastern`, or `None` if there is none.
 ///
 /// Source: docs/SETTINGS.md, "Settings" (key `zone`).
 pub fn local_zone_in(text: &str) -> Option<LocalZone>
@@ -97,7 +100,7 @@ pub fn local_zone_in(text: &str) -> Option<LocalZone>
     }
 }
 
-/// Whether the first character is one of A-Z and a-z.
+/// Whether the first character is one of A-Z and a-z; false for an empty text.
 fn begins_with_letter(text: &[u8]) -> bool
     ensures { result ≡ begins_with_letter text.now }
 {
@@ -114,6 +117,8 @@ fn is_line_byte(byte: u8) -> bool
     is_printable(byte) && !byte.is_ascii_digit()
 }
 
+/// Whether each byte may stand in the line of an office: it is printable (space to tilde) and not a
+/// digit.
 fn are_line_bytes(text: &[u8]) -> bool
     ensures { result ≡ list_all is_line_byte text.now }
 {
@@ -128,12 +133,16 @@ pub fn is_office_line(text: &[u8]) -> bool
     text.len() <= LINE_MOST && begins_with_letter(text) && are_line_bytes(text)
 }
 
+/// Whether a byte may stand in the name of a zone: it is printable (space to tilde) and not a
+/// digit, `$`, `&` or `-`.
 fn is_zone_name_byte(byte: u8) -> bool
     ensures { result ≡ is_zone_name_byte byte }
 {
     is_line_byte(byte) && byte != b'$' && byte != b'&' && byte != b'-'
 }
 
+/// Whether each byte may stand in the name of a zone: it is printable (space to tilde) and not a
+/// digit, `$`, `&` or `-`.
 fn are_zone_name_bytes(text: &[u8]) -> bool
     ensures { result ≡ list_all is_zone_name_byte text.now }
 {

@@ -1,5 +1,5 @@
 //! The keys of the settings, and the values that a document has at them.
-ghost use Rattle.std.specs.Prelude.{◌≡◌, option_map, IfOk, OnOk, ◌++◌};
+ghost use Rattle.std.specs.Prelude.{◌≡◌, option_map, IfOk};
 ghost use Rattle.hazard_types.specs.Names.{category_code};
 ghost use Rattle.toml.specs.Data.{get_member};
 ghost use Rattle.toml.specs.View.{view, table_view};
@@ -21,7 +21,7 @@ pub enum Key {
     Zones,
 }
 
-/// Returns the key of a category's heading, as `WSW`.
+/// Returns the key that the heading of a category has in the table `headings`, as `WSW`.
 fn category_key(category: Category) -> &'static str
     ensures { result.now ≡ category_code category }
 {
@@ -37,7 +37,7 @@ fn category_key(category: Category) -> &'static str
     }
 }
 
-/// Returns the keys in the order in which faults are looked for.
+/// Returns all keys that settings must have, in the order in which faults are looked for.
 ///
 /// Source: docs/DECISIONS.md, "Settings" (the order of faults).
 #[tactic(auto, unfolding(crate::specs::Keys::keys))]
@@ -87,14 +87,15 @@ impl Key {
     }
 }
 
-/// Returns the value that a table has at a key.
+/// Returns the value that a table has at a key, or `None` if there is none.
 fn look_up<'a>(table: &'a Table, key: &str) -> Option<&'a Value>
     ensures { option_map (λ v. view v.now) result ≡ get_member key.now (table_view table.now) }
 {
     table.get(key)
 }
 
-/// Returns the value that the table `headings` has for a category.
+/// Returns the value that the table `headings` of the document `table` has for a category. `None`
+/// if there is no such value, or no table `headings`.
 fn heading_at(table: &Table, category: Category) -> Option<&Value>
     ensures { option_map (λ v. view v.now) result
         ≡ value_at (Key.Heading category) (table_view table.now) }
@@ -108,7 +109,8 @@ fn heading_at(table: &Table, category: Category) -> Option<&Value>
     }
 }
 
-/// Returns the value of a key.
+/// Returns the value that the document `table` has at a key, or `None` if there is none. The value
+/// of a heading is the one in the table `headings`.
 pub fn value_at(table: &Table, key: Key) -> Option<&Value>
     ensures { option_map (λ v. view v.now) result ≡ value_at key (table_view table.now) }
 {
@@ -123,7 +125,8 @@ pub fn value_at(table: &Table, key: Key) -> Option<&Value>
     }
 }
 
-/// Returns the value of a key, if that is a string.
+/// Returns the string that the document `table` has at a key. `None` if there is no value, or the
+/// value is no string.
 pub fn text_at(table: &Table, key: Key) -> Option<&str>
     ensures { option_map (λ s. s.now) result ≡ text_at key (table_view table.now) }
 {
@@ -133,13 +136,15 @@ pub fn text_at(table: &Table, key: Key) -> Option<&str>
     }
 }
 
+/// Whether the document `table` has no value at a key.
 fn is_missing(table: &Table, key: Key) -> bool
     ensures { result ≡ is_missing (table_view table.now) key }
 {
     value_at(table, key).is_none()
 }
 
-/// Returns the first key that the document does not have.
+/// Returns the first key, in the order in which faults are looked for, at which the document
+/// `table` has no value, or `None` if it has a value at each.
 pub fn missing_key(table: &Table) -> Option<Key>
     ensures { result ≡ missing_key (table_view table.now) }
 {

@@ -1,7 +1,5 @@
 //! Reads settings from a TOML document.
 ghost use Rattle.std.specs.Prelude.{◌≡◌, Some, None, IfOk, Err, Ok};
-ghost use Rattle.std.specs.List.{list_any};
-ghost use Rattle.std.specs.Str.{bytes_eq};
 ghost use Rattle.hazard_types.specs.Given.{Gives};
 ghost use Rattle.toml.specs.View.{table_view};
 ghost use Rattle.desk_settings.specs.Reading.{has_twice, fields_in, settings_in, table_of, settings_of};
@@ -33,7 +31,8 @@ fn has_twice(desks: &[Desk]) -> bool
     false
 }
 
-/// Parses a TOML document, which must be UTF-8.
+/// Returns the table of a TOML document. Errs with `NotToml` if the bytes are not UTF-8 or no TOML
+/// document, or out of memory.
 fn read_table(alloc: Global, bytes: &[u8]) -> Result<Table, Or<SettingsFault>>
     ensures ok { IfOk result (λ table. table_of bytes.now ≡ Some (table_view table)) }
     ensures refused { (fault : SettingsFault) →
@@ -53,7 +52,9 @@ fn read_table(alloc: Global, bytes: &[u8]) -> Result<Table, Or<SettingsFault>>
     }
 }
 
-/// Returns the settings of a document that has each key.
+/// Returns the settings that the values of the document `table` give. Errs with `BadValue` of the
+/// first key, in the order in which faults are looked for, whose value is missing or does not have
+/// its form, then with `Twice` if a desk is named twice, or out of memory.
 #[tactic(auto, unfolding(crate::specs::Reading::fields_in))]
 fn fields_in(alloc: Global, table: &Table) -> Result<Settings, Or<SettingsFault>>
     ensures { Gives result (fields_in (table_view table.now)) }
@@ -81,7 +82,9 @@ fn fields_in(alloc: Global, table: &Table) -> Result<Settings, Or<SettingsFault>
     })
 }
 
-/// Returns the settings of a document.
+/// Returns the settings of the document `table`. Errs with the first of these faults, or out of
+/// memory: `Missing` with the first key that is not there, `BadValue` with the first key whose
+/// value does not have its form, and `Twice` if a desk is named twice.
 #[tactic(auto, unfolding(crate::specs::Reading::settings_in))]
 fn settings_in(alloc: Global, table: &Table) -> Result<Settings, Or<SettingsFault>>
     ensures { Gives result (settings_in (table_view table.now)) }

@@ -1,6 +1,6 @@
 //! The settings of an office, and look-ups in them.
-ghost use Rattle.std.specs.Prelude.{◌≡◌, option_map, slice_index_or, [], None, Contains, MatchOption, ◌≢◌, IsTrue, ◌↔◌};
-ghost use Rattle.std.specs.List.{list_any, All};
+ghost use Rattle.std.specs.Prelude.{◌≡◌, option_map, slice_index_or, [], None, Contains, MatchOption, IsTrue, ◌↔◌};
+ghost use Rattle.std.specs.List.{list_any};
 ghost use Rattle.std.specs.List.Sorted.{IsStrictlySortedBy};
 ghost use Rattle.std.specs.Map.{keys_of};
 ghost use Rattle.std.specs.Str.{bytes_eq};
@@ -67,8 +67,9 @@ impl Settings {
         self.headings[place]
     }
 
-    /// Returns the name of a zone, or `None` if `zones` does not have it. `zones` are in order, as
-    /// in accepted settings and those of training.
+    /// Returns the name that `zones` has for a zone, or `None` if `zones` does not have the zone.
+    /// `zones` must be in ascending order with each zone once, as in accepted settings and those of
+    /// training.
     pub fn zone_name(&self, zone: &Zone) -> Option<&Text>
         requires { IsStrictlySortedBy by_place (keys_of self.now.zones) }
         ensures value { option_map (λ name. name.now) result ≡ name_for_zone self.now.zones zone.now }

@@ -8,7 +8,7 @@ use hazard_types::{List, LocalZone, Oom, Text};
 use office_types::Desk;
 use std::alloc::Global;
 
-/// Returns the heading `XXXX00` for each category.
+/// Returns the start of a heading line, `XXXX00`, eight times: once for each category.
 #[tactic(auto, unfolding(crate::specs::AreSettings::training_headings))]
 fn training_headings() -> [[u8; 6]; 8]
     ensures { result ≡ training_headings }
@@ -16,7 +16,7 @@ fn training_headings() -> [[u8; 6]; 8]
     [*b"XXXX00"; 8]
 }
 
-/// Returns the one desk, `DRY`.
+/// Returns the list of the training office's one desk, `DRY`, or errs if memory runs out.
 fn training_desks(alloc: Global) -> Result<List<Desk>, Oom>
     ensures { IfOk result (λ desks. desks ≡ codes "DRY" ∷ []) }
 {
@@ -26,7 +26,9 @@ fn training_desks(alloc: Global) -> Result<List<Desk>, Oom>
     }
 }
 
-/// Returns the settings of the training office of `office`.
+/// Returns the settings of the training office with the code `office`. Its site is the code's last
+/// three characters, local time is UTC, the one desk is `DRY`, each heading is `XXXX00`, and any
+/// zone is accepted.
 fn made(alloc: Global, office: [u8; 4]) -> Result<Settings, Oom>
     ensures { IfOk result (λ s. s ≡ training_of office) }
 {

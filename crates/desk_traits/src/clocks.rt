@@ -1,5 +1,5 @@
 //! Clocks, which return minutes since 2000-01-01T00:00Z UTC.
-ghost use Rattle.std.specs.Prelude.{◌≡◌, ◌<◌, ◌↔◌, ℤ, ℕ, List as Seq, Option, None, Some, Contains, length, drop, IfOk};
+ghost use Rattle.std.specs.Prelude.{◌≡◌, ◌<◌, ◌↔◌, ℤ, List as Seq, Option, None, Some, Contains, length, drop, IfOk};
 ghost use Rattle.desk_traits.specs.Clocks.{Ticks, GivesTheSame};
 
 use hazard_types::{List, Oom};
@@ -15,13 +15,14 @@ pub trait Clock {
     /// The readings that may come. No call changes them.
     ghost gives: { Self → ℤ → Type 0 };
 
-    /// Returns a reading, in minutes since 2000-01-01T00:00Z UTC, for callers that share the clock.
-    /// No clause says which of the readings it is.
+    /// Returns one of the readings that may come, in minutes since 2000-01-01T00:00Z UTC, for
+    /// callers that share the clock. Which of them it is, is not promised.
     fn minute(&self) -> i64
         ensures { gives self.now result };
 
-    /// Returns the first of the future readings, in minutes since 2000-01-01T00:00Z UTC, and
-    /// removes it unless it is the only one.
+    /// Returns the next reading, in minutes since 2000-01-01T00:00Z UTC. If the clock exposes its
+    /// future readings, it is the first of these, and is removed from them unless it is the only
+    /// one.
     fn tick(&mut self) -> i64
         ensures reading { gives self.old result }
         ensures same { GivesTheSame (gives self.old) (gives self.new) }
@@ -43,7 +44,8 @@ pub struct SetClock {
 }
 
 impl SetClock {
-    /// Returns a clock with these readings, in minutes since 2000-01-01T00:00Z UTC.
+    /// Returns a clock whose readings are these, in order, in minutes since 2000-01-01T00:00Z UTC;
+    /// the last is repeated. There must be at least one.
     ///
     /// # Errors
     ///
@@ -100,7 +102,7 @@ pub struct SystemClock<R> {
 }
 
 impl<R: time::Clock> SystemClock<R> {
-    /// Returns a clock that reads `clock`, the runtime's.
+    /// Returns a clock over `clock`, the runtime's clock of the system.
     pub fn new(clock: R) -> Self {
         SystemClock { clock }
     }

@@ -34,7 +34,8 @@ pub trait Disk {
         ensures cause { HasCause (faults self.old) (faults self.new) result }
         ensures steady { OnOk result (faults self.new ≡ faults self.old) };
 
-    /// Reads the bytes from byte `at` on, counted from 0, into all of `into`.
+    /// Fills all of `into` with the bytes of the file from byte `at` on, counted from 0. The file
+    /// must have that many bytes after `at`.
     ///
     /// # Errors
     ///
@@ -48,8 +49,9 @@ pub trait Disk {
         ensures cause { HasCause (faults self.old) (faults self.new) result }
         ensures steady { OnOk result (faults self.new ≡ faults self.old) };
 
-    /// Writes `bytes` from byte `at` on, counted from 0, over what is there and past the end. A
-    /// crash before the next successful sync may leave any bytes in this range.
+    /// Writes `bytes` over the file from byte `at` on, counted from 0 and at most its length; what
+    /// goes past the end makes the file longer. A crash before the next successful sync may leave
+    /// any bytes in the range.
     ///
     /// # Errors
     ///

@@ -15,7 +15,8 @@ pub struct Crashed {
     pub digits: u64,
 }
 
-/// Returns `file` with `bytes` in place of what it has from byte `at` on, counted from 0.
+/// Returns `file` with `bytes` written over it from byte `at` on, counted from 0; what goes past
+/// its end makes it longer. `at` must be at most the length of `file`.
 ///
 /// # Errors
 ///
@@ -34,7 +35,8 @@ pub fn splice(alloc: Global, file: &Text, at: usize, bytes: &[u8]) -> Result<Tex
     Ok(List::from_vec(next))
 }
 
-// The file with `bytes` from byte `at` on, or unchanged if `at` is past its end.
+/// Returns `file` with `bytes` written over it from byte `at` on, counted from 0; what goes past
+/// its end makes it longer. If `at` itself is past the end, the file is unchanged.
 fn file_after(alloc: Global, file: Text, at: u64, bytes: &[u8]) -> Result<Text, Oom>
     ensures { IfOk result (λ new. new ≡ written at bytes.now file) }
 {
@@ -45,8 +47,9 @@ fn file_after(alloc: Global, file: Text, at: u64, bytes: &[u8]) -> Result<Text, 
     }
 }
 
-// The file with what a digit of the pick leaves of a write: 0 nothing, 1 all, 2 the first half of
-// the bytes, 3 as many bytes `G`.
+/// Returns `file` with what a crash leaves of a write of `bytes` from byte `at` on, counted from 0,
+/// that was not synced. `digit`, 0 to 3, chooses this: 0 nothing of the write, 1 all, 2 the first
+/// half of the bytes, 3 as many bytes `G`.
 fn torn_to(alloc: Global, digit: u64, at: u64, bytes: &[u8], file: Text) -> Result<Text, Oom>
     ensures { IfOk result (λ new. new ≡ torn_to digit at bytes.now file) }
 {
@@ -63,7 +66,10 @@ fn torn_to(alloc: Global, digit: u64, at: u64, bytes: &[u8], file: Text) -> Resu
     file_after(alloc, file, at, &other)
 }
 
-// The files and the digits after one more call.
+/// Returns the file as a read returns it and as a crash leaves it, after one more call than in
+/// `crash`. A write, failed or not, takes the lowest base-4 digit of those that remain, which
+/// chooses what a crash leaves of it. After a successful sync a crash leaves what a read returns,
+/// and the digits are again all those of `pick`.
 fn crash_after(alloc: Global, pick: u64, call: &DiskCall, crash: Crashed) -> Result<Crashed, Oom>
     ensures { IfOk result (λ new. new ≡ crash_after pick call.now crash) }
 {
@@ -94,7 +100,10 @@ fn crash_after(alloc: Global, pick: u64, call: &DiskCall, crash: Crashed) -> Res
     }
 }
 
-/// Returns the file that a crash after `calls` leaves, by the digits of `pick`.
+/// Returns the file that a crash after `calls`, in the order in which they were made, leaves, where
+/// `first` was the file before them. Each write since the last successful sync takes a digit of
+/// `pick` in base 4, from the lowest on: 0 leaves nothing of it, 1 all, 2 the first half, 3 as many
+/// bytes `G`.
 ///
 /// # Errors
 ///

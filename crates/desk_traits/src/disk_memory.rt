@@ -1,5 +1,5 @@
 //! The calls of a disk in memory.
-ghost use Rattle.std.specs.Prelude.{◌≡◌, ◌⊎◌, ◌≤◌, ◌<◌, ◌+◌, ◌++◌, ◌∷◌, ◌↔◌, [], ℕ, Some, true, false, Contains, length, take, drop, OnOk, OnErr, IfOk, IsTrue, if◌then◌else◌};
+ghost use Rattle.std.specs.Prelude.{◌≡◌, ◌⊎◌, ◌≤◌, ◌<◌, ◌+◌, ◌++◌, ◌∷◌, ◌↔◌, [], Some, true, false, Contains, length, take, drop, OnOk, OnErr, IfOk, IsTrue, if◌then◌else◌};
 ghost use Rattle.desk_traits.specs.Crash.{Passes};
 ghost use Rattle.desk_traits.specs.Faults.{HasCause, Rose, next_count};
 ghost use Rattle.desk_traits.specs.File.{Torn, Same, IsWithin, WritesAt, Gives, IsLength, Only, NotesSync};
@@ -14,7 +14,8 @@ use crate::faults::Failed;
 use hazard_types::{List, Oom, Text};
 use std::alloc::Global;
 
-// Writes `bytes` into the file from byte `at` on, and records the write.
+/// Writes `bytes` over the file from byte `at` on, counted from 0 and at most its length, and
+/// appends the write to `calls`. If memory runs out, both are as before.
 fn put(
     alloc: Global,
     file: &mut Text,
@@ -36,15 +37,17 @@ fn put(
     Ok(())
 }
 
-// Records a call, and returns whether there was memory for it.
+/// Appends a call to the record `calls`, and returns whether there was memory for it; if not, the
+/// record is unchanged.
 fn note(calls: &mut Vec<DiskCall>, call: DiskCall) -> bool
     ensures { calls.new.items ≡ (if result then calls.old.items ++ call ∷ [] else calls.old.items) }
 {
     calls.push(call).is_ok()
 }
 
-// Records a failed write, and returns whether there was memory for it.
-fn note_failed(alloc: Global, calls: &mut Vec<DiskCall>, at: u64, bytes: &[u8]) -> bool
+/// Appends a failed write of `bytes` at byte `at` to the record `calls`, and returns whether there
+/// was memory for it; if not, the record is unchanged.
+fn record_failed_write(alloc: Global, calls: &mut Vec<DiskCall>, at: u64, bytes: &[u8]) -> bool
     ensures { calls.new.items
         ≡ (if result then calls.old.items ++ WriteFailed at bytes.now ∷ [] else calls.old.items) }
 {
@@ -54,7 +57,8 @@ fn note_failed(alloc: Global, calls: &mut Vec<DiskCall>, at: u64, bytes: &[u8]) 
     }
 }
 
-// Whether call `number`, counted from 1, is to fail.
+/// Whether the call with this number, 1 for the first, is to fail: its number is in `failing`, or
+/// is greater than `stop`, if that is not `None`.
 fn is_to_fail(failing: &List<u64>, stop: Option<u64>, number: u64) -> bool
     ensures { IsTrue result ↔ (Contains failing.now number ⊎ IsPast stop number) }
 {
@@ -65,11 +69,11 @@ fn is_to_fail(failing: &List<u64>, stop: Option<u64>, number: u64) -> bool
 }
 
 impl MemDisk {
-    /// Returns a disk with the file `bytes`, all of it stable. Call n, counted from 1, fails if n
-    /// is in `failing` or greater than `stop`, and so does each call for which memory runs out.
-    /// `pick` chooses what a crash leaves: in base 4 from the lowest digit on, each write since the
-    /// last successful sync takes a digit, 0 for nothing of it, 1 all, 2 the first half, 3 as many
-    /// bytes `G` (docs/DECISIONS.md, "Journal and disk").
+    /// Returns a disk with the file `bytes`, all of it stable. Call n, 1 for the first, fails if n
+    /// is in `failing` or greater than `stop` (`None` for no such limit), and so does each call for
+    /// which memory runs out. `pick` chooses what a crash leaves: each write since the last
+    /// successful sync takes a digit of it in base 4, from the lowest on, 0 for nothing of the
+    /// write, 1 all, 2 the first half, 3 as many bytes `G` (docs/DECISIONS.md, "Journal and disk").
     ///
     /// # Errors
     ///
@@ -125,7 +129,8 @@ impl MemDisk {
         &self.calls
     }
 
-    /// Returns the file that a crash at this moment leaves, by the digits of the pick.
+    /// Returns the file that a crash at this moment leaves, as the number `pick` given to `new`
+    /// chooses it.
     ///
     /// # Errors
     ///
@@ -138,7 +143,8 @@ impl MemDisk {
         file_left(self.alloc, &self.first, self.pick, &self.calls)
     }
 
-    // Counts a call, and returns whether it is to fail.
+    /// Counts one more call, and returns whether this call is to fail by its number, 1 for the
+    /// first.
     fn called(&mut self) -> bool
         ensures first { self.new.first ≡ self.old.first }
         ensures file { self.new.file ≡ self.old.file }
@@ -158,7 +164,8 @@ impl MemDisk {
         is_to_fail(&self.failing, self.stop, self.count)
     }
 
-    // Counts a fault, and keeps in mind if memory ran out for the call's record.
+    /// Adds one to the count of failed calls. `noted` is whether the call is in the record of
+    /// calls; if it is false, the disk keeps for good that a call is missing from its record.
     fn failed(&mut self, noted: bool)
         ensures first { self.new.first ≡ self.old.first }
         ensures file { self.new.file ≡ self.old.file }
@@ -173,7 +180,9 @@ impl MemDisk {
         self.lacked = self.lacked || !noted;
     }
 
-    // Counts and records a call that is not a successful write, and returns whether it succeeded.
+    /// Counts and records a call that is not a write, and returns whether it succeeded. It is
+    /// recorded as `good`, or as `failed` if it is to fail by its number. If there is no memory for
+    /// the record, the call fails and is not recorded.
     fn asked(&mut self, good: DiskCall, failed: DiskCall) -> bool
         requires good { is_write good ≡ false }
         requires failed { is_write failed ≡ false }
@@ -291,7 +300,7 @@ impl Disk for MemDisk {
             result }
     {
         if self.called() {
-            let noted = note_failed(self.alloc, &mut self.calls, at, bytes);
+            let noted = record_failed_write(self.alloc, &mut self.calls, at, bytes);
             self.failed(noted);
             return Err(Failed);
         }

@@ -15,7 +15,7 @@ pub struct FileDisk {
 }
 
 impl FileDisk {
-    /// Returns a disk over an open file, or one without a file.
+    /// Returns a disk over an open file, or for `None` one whose calls all fail.
     pub fn new(file: Option<File>) -> Self
         ensures { ⟦<FileDisk as Disk>⟧.faults result ≡ 0 }
     {

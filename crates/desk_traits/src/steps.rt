@@ -1,13 +1,14 @@
 //! A write and a sync together.
-ghost use Rattle.std.specs.Prelude.{◌≡◌, ◌≤◌, ◌+◌, ℕ, List, Option, Some, length, IfOk, OnOk};
+ghost use Rattle.std.specs.Prelude.{◌≡◌, length, OnOk};
 ghost use Rattle.desk_traits.specs.Crash.{Passes};
 ghost use Rattle.desk_traits.specs.Faults.{HasCause};
-ghost use Rattle.desk_traits.specs.File.{Torn, Same, IsWithin, WritesAt, Only, NotesSync};
+ghost use Rattle.desk_traits.specs.File.{Torn, IsWithin, WritesAt, Only, NotesSync};
 
 use crate::disk::Disk;
 use crate::faults::Failed;
 
-/// Writes `bytes` from byte `at` on, counted from 0, and makes all writes stable.
+/// Writes `bytes` over the file from byte `at` on, counted from 0, and makes this and all earlier
+/// writes stable: a crash directly afterwards leaves the file as a read returns it.
 ///
 /// # Errors
 ///

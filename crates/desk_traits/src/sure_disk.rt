@@ -18,7 +18,7 @@ pub struct SureDisk {
 }
 
 impl SureDisk {
-    /// Returns an empty disk of `room` bytes.
+    /// Returns a disk with an empty file, which can grow to `room` bytes.
     ///
     /// # Errors
     ///

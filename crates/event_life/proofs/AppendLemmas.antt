@@ -11,7 +11,7 @@ use Rattle.hazard_types.specs.declared.line.Row.{Row}
 use Rattle.event_life.specs.declared.life.Breach.{Breach}
 use Rattle.event_life.specs.Products.{Product, put, row_after, is_routine, breach_in, judged_from, lawful_of, put_all, rows_with}
 use Rattle.event_life.specs.Lives.{judged_product, steps_of, track_from}
-use Rattle.event_life.specs.Openings.{opened_by, opened_from, Gap, wanted_after, gaps_from}
+use Rattle.event_life.specs.Openings.{events_opened_by, opened_from, Gap, wanted_after, gaps_from}
 
 cons-append : {X : Type 0} (xs : List X) (x : X) (ys : List X) → (xs ++ x ∷ []) ++ ys ≡ xs ++ (x ∷ ys)
 cons-append xs x ys = rw append_assoc
@@ -48,8 +48,8 @@ track_from-append rows (p ∷ ps) qs e z =
 pub opened_from-append : (rows : List Row) (ps qs : List Product) → opened_from rows (ps ++ qs) ≡ opened_from rows ps ++ opened_from (fold rows_with rows ps) qs
 opened_from-append rows [] qs = refl
 opened_from-append rows (p ∷ ps) qs =
-    ap (λ (events : List Event). opened_by (lawful_of (judged_product rows p)) ++ events) (opened_from-append (rows_with rows p) ps qs)
-    ∙ sym (append_assoc (opened_by (lawful_of (judged_product rows p))) (opened_from (rows_with rows p) ps) (opened_from (fold rows_with (rows_with rows p) ps) qs))
+    ap (λ (events : List Event). events_opened_by (lawful_of (judged_product rows p)) ++ events) (opened_from-append (rows_with rows p) ps qs)
+    ∙ sym (append_assoc (events_opened_by (lawful_of (judged_product rows p))) (opened_from (rows_with rows p) ps) (opened_from (fold rows_with (rows_with rows p) ps) qs))
 
 abbrev gap_at : List Event → Event → List Gap
 gap_at earlier e = cond (e.etn == wanted_after earlier e) [] (record { event = e; wanted = wanted_after earlier e } ∷ [])

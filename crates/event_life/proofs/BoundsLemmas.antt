@@ -18,7 +18,7 @@ use Rattle.event_life.specs.declared.life.Breach.TheVariants.{TooEarly, PeriodMo
 use Rattle.event_life.specs.Periods.{ends_after, same_end, same_at}
 use Rattle.event_life.specs.Lives.{opens, goes_on, ends}
 use Rattle.hazard_types.specs.declared.line.Flood.{Flood}
-use Rattle.event_life.specs.Table.{flood_after, first_of, on_life, on_nothing, on_new, on_joining, on_continuing, on_ending, prints_begin_as_due, moves_begin, prints_past, prints_later, expires_early, expires_late, cancels_late, stays, continued_period, breach_of_line, life_after_lawful_line, life_after_line, unless_breach, step}
+use Rattle.event_life.specs.Table.{flood_after, first_of, on_life, on_nothing, on_new, on_joining, on_continuing, on_ending, prints_begin_as_due, moves_begin, prints_begun, prints_to_come, expires_early, expires_late, cancels_late, keeps_period, continued_period, breach_of_line, life_after_lawful_line, life_after_line, unless_breach, step}
 use Rattle.event_life.specs.Bounds.{IsBefore, IsLongBefore, IsNear, AreSame, HasEnded, OpensEvent, JoinsEvent, GoesOnFrom, Stays, EndsAsPrinted, begin_left, IsOpened, IsCarriedOn, IsEnded}
 use Rattle.event_life.specs.Products.{is_routine}
 use Rattle.event_life.proofs.LivesLemmas.{on_life-ended}
@@ -158,14 +158,14 @@ exb_exactly (Some life) line t around a =
 
 -- CON, COR and EXT
 
-printed_from : (begin : Option ℕ) (own t : ℕ) → prints_past begin t ≡ false → (prints_later begin t && nat_le own t) ≡ false → IfSome begin (λ b. (t < b) × (t < own))
+printed_from : (begin : Option ℕ) (own t : ℕ) → prints_begun begin t ≡ false → (prints_to_come begin t && nat_le own t) ≡ false → IfSome begin (λ b. (t < b) × (t < own))
 printed_from None own t p q = tt
 printed_from (Some b) own t p q =
     let later = leb-false b t p in
     let begun : nat_le own t ≡ false = rw (lt-ltb t b later) at q in
     (later, leb-false own t begun)
 
-from_printed : (begin : Option ℕ) (own t : ℕ) → IfSome begin (λ b. (t < b) × (t < own)) → (prints_past begin t ≡ false) × ((prints_later begin t && nat_le own t) ≡ false)
+from_printed : (begin : Option ℕ) (own t : ℕ) → IfSome begin (λ b. (t < b) × (t < own)) → (prints_begun begin t ≡ false) × ((prints_to_come begin t && nat_le own t) ≡ false)
 from_printed None own t h = (refl, refl)
 from_printed (Some b) own t h = (lt-leb b t h.0, rw (lt-ltb t b h.0, lt-leb own t h.1))
 
@@ -191,14 +191,14 @@ from_goes_on life line t last r l =
     not_from_true _ (and_from _ _ ((ends_after-Decides line.end (begin_left life line t)).1 r.length) ((ends_after-Decides line.end t).1 r.left)) in
     (live, (printed.0, (printed.1, (ends, (l, tt)))))
 
-stays-Decides : (life : Life) (line : Line) (t : ℕ) → Decides (stays life line t) (Stays life line t)
-stays-Decides life line t = same_at-Decides t life.period (continued_period life line t)
+keeps_period-Decides : (life : Life) (line : Line) (t : ℕ) → Decides (keeps_period life line t) (Stays life line t)
+keeps_period-Decides life line t = same_at-Decides t life.period (continued_period life line t)
 
 -- CON and COR keep the period
-kept_exactly : (life : Life) (line : Line) (t : ℕ) {P : Type 0} → (P ↔ NoneHolds (on_continuing life line t (not (stays life line t), PeriodMoved))) → P ↔ (GoesOnFrom life line t × Stays life line t)
+kept_exactly : (life : Life) (line : Line) (t : ℕ) {P : Type 0} → (P ↔ NoneHolds (on_continuing life line t (not (keeps_period life line t), PeriodMoved))) → P ↔ (GoesOnFrom life line t × Stays life line t)
 kept_exactly life line t rows = (
-  λ h. let g = goes_on_from life line t (not (stays life line t), PeriodMoved) (rows.0 h) in (g.0, (stays-Decides life line t).0 (not-false _ g.1)),
-  λ r. rows.1 (from_goes_on life line t (not (stays life line t), PeriodMoved) r.0 (not_from_true _ ((stays-Decides life line t).1 r.1))),
+  λ h. let g = goes_on_from life line t (not (keeps_period life line t), PeriodMoved) (rows.0 h) in (g.0, (keeps_period-Decides life line t).0 (not-false _ g.1)),
+  λ r. rows.1 (from_goes_on life line t (not (keeps_period life line t), PeriodMoved) r.0 (not_from_true _ ((keeps_period-Decides life line t).1 r.1))),
 )
 
 pub con_exactly : (before : Option Life) (line : Line) (t : ℕ) (around : Around) → line.action ≡ Con → IsOk (step before line t around) ↔ IsSomeAnd before (λ life. GoesOnFrom life line t × Stays life line t)
@@ -213,8 +213,8 @@ pub ext_exactly : (before : Option Life) (line : Line) (t : ℕ) (around : Aroun
 ext_exactly None line t around a = (λ h. let f = ((lawful_on_nothing Ext line t around a).0 h).0 in cc, λ r. absurd r)
 ext_exactly (Some life) line t around a =
     let rows = lawful_on_life Ext life line t around a in (
-      λ h. let g = goes_on_from life line t (stays life line t, PeriodSame) (rows.0 h) in (g.0, λ s. both_ways _ g.1 ((stays-Decides life line t).1 s)),
-      λ r. rows.1 (from_goes_on life line t (stays life line t, PeriodSame) r.0 (false_from_ne_true _ (λ s. r.1 ((stays-Decides life line t).0 s)))),
+      λ h. let g = goes_on_from life line t (keeps_period life line t, PeriodSame) (rows.0 h) in (g.0, λ s. both_ways _ g.1 ((keeps_period-Decides life line t).1 s)),
+      λ r. rows.1 (from_goes_on life line t (keeps_period life line t, PeriodSame) r.0 (false_from_ne_true _ (λ s. r.1 ((keeps_period-Decides life line t).0 s)))),
     )
 
 -- CAN, EXP and UPG

@@ -17,7 +17,7 @@ use Rattle.hazard_types.proofs.Equality.{event_one, event_itself}
 use Rattle.hazard_types.proofs.OrderLaws.{by_event_total}
 use Rattle.event_life.specs.Products.{Product, by_key, placed, put, has_rows, life_at, row_after, around_of, is_routine, is_new, is_second, breach_in, judged_from, judged, lawful_of, put_all, lines_of, rows_after, rows_with}
 use Rattle.event_life.specs.Lives.{judged_product}
-use Rattle.event_life.specs.Openings.{event_placed, add_event, opened_by, opened_from, opened_of}
+use Rattle.event_life.specs.Openings.{event_placed, add_event, events_opened_by, opened_from, opened_of}
 use Rattle.event_life.specs.Table.{breach_of_line, life_after_lawful_line}
 use Rattle.event_life.proofs.BoundsLemmas.{none_ok, new_exactly}
 use Rattle.event_life.proofs.Keys.{key_exact}
@@ -124,9 +124,9 @@ every_step P e events true p all = add_event-every P e events (p refl) all
 every_step P e events false p all = all
 
 -- what holds of the event of each NEW line holds of each that is opened
-pub opened_by-every : (P : Event → Type 0) (lines : List Line) → AllByRecursion (λ (line : Line). is_new line.action ≡ true → P line.event) lines → AllByRecursion P (opened_by lines)
-opened_by-every P [] all = tt
-opened_by-every P (line ∷ lines) all = every_step P line.event (opened_by lines) (is_new line.action) all.0 (opened_by-every P lines all.1)
+pub events_opened_by-every : (P : Event → Type 0) (lines : List Line) → AllByRecursion (λ (line : Line). is_new line.action ≡ true → P line.event) lines → AllByRecursion P (events_opened_by lines)
+events_opened_by-every P [] all = tt
+events_opened_by-every P (line ∷ lines) all = every_step P line.event (events_opened_by lines) (is_new line.action) all.0 (events_opened_by-every P lines all.1)
 
 above_all : (e d : Event) (events : List Event) → by_event e d ≡ Less → AllByRecursion (λ y. by_event d y ≡ Less) events → AllByRecursion (λ y. by_event e y ≡ Less) events
 above_all e d [] h all = tt
@@ -147,10 +147,10 @@ up_step : (e : Event) (events : List Event) (new : Bool) → IsStrictlySortedBy 
 up_step e events true up = add_event-up e events up
 up_step e events false up = up
 
-pub opened_by-up : (lines : List Line) → IsStrictlySortedBy by_event (opened_by lines)
+pub events_opened_by-up : (lines : List Line) → IsStrictlySortedBy by_event (events_opened_by lines)
 unfolding IsStrictlySortedBy
-opened_by-up [] = tt
-opened_by-up (line ∷ lines) = up_step line.event (opened_by lines) (is_new line.action) (opened_by-up lines)
+events_opened_by-up [] = tt
+events_opened_by-up (line ∷ lines) = up_step line.event (events_opened_by lines) (is_new line.action) (events_opened_by-up lines)
 
 less_apart : (e : Event) (events : List Event) → AllByRecursion (λ y. by_event e y ≡ Less) events → AllByRecursion (λ y. same_event e y ≡ false) events
 less_apart e [] all = tt
@@ -189,8 +189,8 @@ opened_of-none : (rows : List Row) (products : List Product) → AllByRecursion 
 opened_of-none rows [] = tt
 opened_of-none rows (p ∷ products) =
     let lines = lines_of rows p.issue p.said in
-    all_joined (λ e. has_rows rows e ≡ false) (opened_by (lawful_of (judged_product rows p))) (opened_from (rows_with rows p) products)
-    (opened_by-every (λ e. has_rows rows e ≡ false) (lawful_of (judged_product rows p)) (lawful_of-none rows p.issue lines [] lines))
+    all_joined (λ e. has_rows rows e ≡ false) (events_opened_by (lawful_of (judged_product rows p))) (opened_from (rows_with rows p) products)
+    (events_opened_by-every (λ e. has_rows rows e ≡ false) (lawful_of (judged_product rows p)) (lawful_of-none rows p.issue lines [] lines))
     (all_weaker (λ e. has_rows (rows_with rows p) e ≡ false) (λ e. has_rows rows e ≡ false) (none_before rows p) (opened_from (rows_with rows p) products) (opened_of-none (rows_with rows p) products))
 
 apart_from : (rows : List Row) (x : Event) (ys : List Event) → has_rows rows x ≡ true → AllByRecursion (λ e. has_rows rows e ≡ false) ys → AllByRecursion (λ y. same_event x y ≡ false) ys
@@ -209,12 +209,12 @@ unfolding IsDistinct
 once_from rows [] = tt
 once_from rows (p ∷ products) =
     let lines = lines_of rows p.issue p.said in
-    let opened = opened_by (lawful_of (judged_product rows p)) in
+    let opened = events_opened_by (lawful_of (judged_product rows p)) in
     distinct_joined (rows_with rows p) opened (opened_from (rows_with rows p) products)
-    (opened_by-every (λ e. has_rows (rows_with rows p) e ≡ true) (lawful_of (judged_product rows p))
+    (events_opened_by-every (λ e. has_rows (rows_with rows p) e ≡ true) (lawful_of (judged_product rows p))
     (lines_weaker (λ (line : Line). has_rows (rows_with rows p) line.event ≡ true) (λ (line : Line). is_new line.action ≡ true → has_rows (rows_with rows p) line.event ≡ true) (λ line h new. h) (lawful_of (judged_product rows p)) (have_after rows p.issue lines)))
     (opened_of-none (rows_with rows p) products)
-    (distinct_up opened (opened_by-up (lawful_of (judged_product rows p))))
+    (distinct_up opened (events_opened_by-up (lawful_of (judged_product rows p))))
     (once_from (rows_with rows p) products)
 
 pub opened_once : (products : List Product) → IsDistinct same_event (opened_of products)

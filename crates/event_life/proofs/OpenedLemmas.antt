@@ -16,11 +16,11 @@ use Rattle.hazard_types.specs.declared.line.Line.{Line}
 use Rattle.hazard_types.specs.declared.line.Row.{Row}
 use Rattle.hazard_types.proofs.OrderLaws.{by_event_total, by_event_ties}
 use Rattle.event_life.specs.declared.life.Breach.{Breach}
-use Rattle.event_life.specs.Openings.{event_placed, add_event, opened_by}
+use Rattle.event_life.specs.Openings.{event_placed, add_event, events_opened_by}
 use Rattle.event_life.specs.Products.{is_new, is_routine, breach_in, judged_from, judged, lawful_of}
 use Rattle.event_life.specs.Reordered.{are_lawful}
 use Rattle.event_life.proofs.Members.{IsIn, of_all, all_of, in_contains, contains_in}
-use Rattle.event_life.proofs.OnceLemmas.{opened_by-every, opened_by-up}
+use Rattle.event_life.proofs.OnceLemmas.{events_opened_by-every, events_opened_by-up}
 
 -- a list strictly in order is told by its members
 module _ {K : Type 0} {R : K → K → Ordering} (order : IsTotalOrder R) where
@@ -89,38 +89,38 @@ stay_opened x e events true h = stay_added x e events h
 stay_opened x e events false h = h
 
 -- the event of each NEW line is opened
-opened_in : (lines : List Line) (line : Line) → IsIn line lines → is_new line.action ≡ true → IsIn line.event (opened_by lines)
+opened_in : (lines : List Line) (line : Line) → IsIn line lines → is_new line.action ≡ true → IsIn line.event (events_opened_by lines)
 opened_in [] line h new = absurd h
 opened_in (l ∷ lines) line (inl s) new =
     let own : is_new l.action ≡ true = subst (λ (v : Line). is_new v.action ≡ true) (sym s) new in
-    subst (λ (v : Line). IsIn v.event (opened_by (l ∷ lines))) s (rw own (own_added l.event (opened_by lines)))
-opened_in (l ∷ lines) line (inr h) new = stay_opened line.event l.event (opened_by lines) (is_new l.action) (opened_in lines line h new)
+    subst (λ (v : Line). IsIn v.event (events_opened_by (l ∷ lines))) s (rw own (own_added l.event (events_opened_by lines)))
+opened_in (l ∷ lines) line (inr h) new = stay_opened line.event l.event (events_opened_by lines) (is_new l.action) (opened_in lines line h new)
 
 -- one of these is a NEW line of the event
 abbrev HasNew : List Line → Event → Type 0
 HasNew lines e = (line : Line) × IsIn line lines × (is_new line.action ≡ true) × (line.event ≡ e)
 
 -- and no other event is
-in_opened : (lines : List Line) (e : Event) → IsIn e (opened_by lines) → HasNew lines e
+in_opened : (lines : List Line) (e : Event) → IsIn e (events_opened_by lines) → HasNew lines e
 in_opened lines e h =
-    of_all (HasNew lines) (opened_by lines) e
-    (opened_by-every (HasNew lines) lines (all_of (λ (line : Line). is_new line.action ≡ true → HasNew lines line.event) lines (λ line g new. (line, g, new, refl)))) h
+    of_all (HasNew lines) (events_opened_by lines) e
+    (events_opened_by-every (HasNew lines) lines (all_of (λ (line : Line). is_new line.action ≡ true → HasNew lines line.event) lines (λ line g new. (line, g, new, refl)))) h
 
-pub opened_members : (lines : List Line) (e : Event) → Contains (opened_by lines) e ↔ ((line : Line) × Contains lines line × (is_new line.action ≡ true) × (line.event ≡ e))
+pub opened_members : (lines : List Line) (e : Event) → Contains (events_opened_by lines) e ↔ ((line : Line) × Contains lines line × (is_new line.action ≡ true) × (line.event ≡ e))
 opened_members lines e = (
-  λ h. let w = in_opened lines e (contains_in (opened_by lines) e h) in (w.0, in_contains lines w.0 w.1, w.2, w.3),
-  λ w. in_contains (opened_by lines) e (subst (λ (d : Event). IsIn d (opened_by lines)) w.3 (opened_in lines w.0 (contains_in lines w.0 w.1) w.2)),
+  λ h. let w = in_opened lines e (contains_in (events_opened_by lines) e h) in (w.0, in_contains lines w.0 w.1, w.2, w.3),
+  λ w. in_contains (events_opened_by lines) e (subst (λ (d : Event). IsIn d (events_opened_by lines)) w.3 (opened_in lines w.0 (contains_in lines w.0 w.1) w.2)),
 )
 
-opened_too : (xs ys : List Line) → ((line : Line) → is_new line.action ≡ true → Contains xs line → Contains ys line) → (e : Event) → IsIn e (opened_by xs) → IsIn e (opened_by ys)
+opened_too : (xs ys : List Line) → ((line : Line) → is_new line.action ≡ true → Contains xs line → Contains ys line) → (e : Event) → IsIn e (events_opened_by xs) → IsIn e (events_opened_by ys)
 opened_too xs ys there e h =
     let w = in_opened xs e h in
-    subst (λ (d : Event). IsIn d (opened_by ys)) w.3 (opened_in ys w.0 (contains_in ys w.0 (there w.0 w.2 (in_contains xs w.0 w.1))) w.2)
+    subst (λ (d : Event). IsIn d (events_opened_by ys)) w.3 (opened_in ys w.0 (contains_in ys w.0 (there w.0 w.2 (in_contains xs w.0 w.1))) w.2)
 
 -- lists of lines with the same NEW lines open the same events
-pub opened_alike : (xs ys : List Line) → ((line : Line) → is_new line.action ≡ true → Contains xs line ↔ Contains ys line) → opened_by xs ≡ opened_by ys
+pub opened_alike : (xs ys : List Line) → ((line : Line) → is_new line.action ≡ true → Contains xs line ↔ Contains ys line) → events_opened_by xs ≡ events_opened_by ys
 opened_alike xs ys alike =
-    told_by_members by_event_total (opened_by xs) (opened_by ys) (opened_by-up xs) (opened_by-up ys)
+    told_by_members by_event_total (events_opened_by xs) (events_opened_by ys) (events_opened_by-up xs) (events_opened_by-up ys)
     (opened_too xs ys (λ line new. (alike line new).0))
     (opened_too ys xs (λ line new. (alike line new).1))
 
@@ -130,16 +130,16 @@ routine_opens_none : (a : Action) → is_routine a ≡ true → is_new a ≡ fal
 routine_opens_none Rou h = refl
 routine_opens_none _ h = cc
 
-lawful_opened : (line : Line) (lines : List Line) (routine lawful : Bool) → is_routine line.action ≡ routine → lawful ≡ true → opened_by (cond (not routine && lawful) (line ∷ lines) lines) ≡ opened_by (line ∷ lines)
+lawful_opened : (line : Line) (lines : List Line) (routine lawful : Bool) → is_routine line.action ≡ routine → lawful ≡ true → events_opened_by (cond (not routine && lawful) (line ∷ lines) lines) ≡ events_opened_by (line ∷ lines)
 lawful_opened line lines true lawful own h = rw (routine_opens_none line.action own) refl
 lawful_opened line lines false lawful own h = rw h refl
 
-opened_from_lawful : (rows : List Row) (t : ℕ) (all earlier lines : List Line) → list_all (λ (l : Line × Option Breach). is_none l.1) (judged_from rows t all earlier lines) ≡ true → opened_by (lawful_of (judged_from rows t all earlier lines)) ≡ opened_by lines
+opened_from_lawful : (rows : List Row) (t : ℕ) (all earlier lines : List Line) → list_all (λ (l : Line × Option Breach). is_none l.1) (judged_from rows t all earlier lines) ≡ true → events_opened_by (lawful_of (judged_from rows t all earlier lines)) ≡ events_opened_by lines
 opened_from_lawful rows t all earlier [] h = refl
 opened_from_lawful rows t all earlier (line ∷ lines) h =
     let parts = and_parts (is_none (breach_in rows t all earlier line)) _ h in
     lawful_opened line (lawful_of (judged_from rows t all (earlier ++ line ∷ []) lines)) (is_routine line.action) (is_none (breach_in rows t all earlier line)) refl parts.0
     ∙ ap (λ (events : List Event). cond (is_new line.action) (add_event line.event events) events) (opened_from_lawful rows t all (earlier ++ line ∷ []) lines parts.1)
 
-pub opened_lawful : (rows : List Row) (t : ℕ) (lines : List Line) → are_lawful rows t lines ≡ true → opened_by (lawful_of (judged rows t lines)) ≡ opened_by lines
+pub opened_lawful : (rows : List Row) (t : ℕ) (lines : List Line) → are_lawful rows t lines ≡ true → events_opened_by (lawful_of (judged rows t lines)) ≡ events_opened_by lines
 opened_lawful rows t lines h = opened_from_lawful rows t lines [] lines h

@@ -20,7 +20,7 @@ use Rattle.event_life.specs.declared.life.Around.{Around}
 use Rattle.event_life.specs.Periods.{keeps_open, is_not_long_past}
 use Rattle.event_life.specs.Table.{breach_of_line, life_after_lawful_line, step}
 use Rattle.event_life.specs.Bounds.{IsBefore, IsLongBefore, IsNear, GoesOnFrom, Stays, EndsAsPrinted}
-use Rattle.event_life.specs.Products.{row_at, life_of, life_at, is_open, around_of, is_routine, is_new, later_event, going_in, end_of, line_of}
+use Rattle.event_life.specs.Products.{row_at, life_of, life_at, is_open, around_of, is_routine, is_new, later_event, latest_open_event, end_of, line_of}
 use Rattle.event_life.specs.Firsts.{is_lawful}
 use Rattle.event_life.specs.Printed.{printed_end, zone_line_of, IsOneEvent, HasOneOpen}
 use Rattle.event_life.proofs.Puts.{at_key, at_key-parts}
@@ -122,8 +122,8 @@ module _ (t : ℕ) (e : Event) where
       step (is_named r) refl
 
 -- an open event is the one that its hazard and number find
-pub going_in-open : (rows : List Row) (t : ℕ) (e : Event) → HasOneOpen rows t → is_open rows t e ≡ true → going_in rows e.hazard e.etn t ≡ Some e
-going_in-open rows t e one any =
+pub latest_open_event-open : (rows : List Row) (t : ℕ) (e : Event) → HasOneOpen rows t → is_open rows t e ≡ true → latest_open_event rows e.hazard e.etn t ≡ Some e
+latest_open_event-open rows t e one any =
     let inner = λ (r : Row) (h : All (λ s. IsOneEvent t r s) rows). recursion_from_All (λ s. IsOneEvent t r s) rows h in
     let all = all_weaker (λ r. All (λ s. IsOneEvent t r s) rows) (λ r. AllByRecursion (λ s. IsOneEvent t r s) rows) inner rows (recursion_from_All (λ r. All (λ s. IsOneEvent t r s) rows) rows one) in
     fold_none t e rows (only_from t e rows rows all any) any
@@ -173,12 +173,12 @@ end_back Ufn = refl
 
 -- the event is read off a lawful line's text
 event_back : (rows : List Row) (t : ℕ) (lines : List Line) (line : Line) (new : Bool) → is_new line.action ≡ new → is_routine line.action ≡ false → is_lawful rows t lines line ≡ true → HasOneOpen rows t → (is_new line.action ≡ true → line.event.year ≡ year_of t) →
-    cond new (record { hazard = line.event.hazard; etn = line.event.etn; year = year_of t }) (unwrap_or (going_in rows line.event.hazard line.event.etn t) (record { hazard = line.event.hazard; etn = line.event.etn; year = year_of t })) ≡ line.event
+    cond new (record { hazard = line.event.hazard; etn = line.event.etn; year = year_of t }) (unwrap_or (latest_open_event rows line.event.hazard line.event.etn t) (record { hazard = line.event.hazard; etn = line.event.etn; year = year_of t })) ≡ line.event
 event_back rows t lines line true n routine lawful one year = let y = sym (year n) in λ i. record { hazard = line.event.hazard; etn = line.event.etn; year = y i }
 event_back rows t lines line false n routine lawful one year =
     let ok : IsOk (step (life_at rows line) line t (around_of rows t lines line)) = none_ok (breach_of_line (life_at rows line) line t (around_of rows t lines line)) (life_after_lawful_line (life_at rows line) line t) (none_from_test _ lawful) in
     let going = is_open-lawful rows t (around_of rows t lines line) line refl line.action refl routine n ok in
-    rw (going_in-open rows t line.event one going)
+    rw (latest_open_event-open rows t line.event one going)
 
 -- a lawful line is read off its text again
 pub line_of-printed : (rows : List Row) (t : ℕ) (lines : List Line) (class : Class) (office : List ℕ) (line : Line) →

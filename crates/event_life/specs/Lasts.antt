@@ -18,13 +18,13 @@ abbrev pub by_series : Series → Series → Ordering
 by_series = then_cmp (on (λ (s : Series). s.hazard) by_hazard) (on (λ (s : Series). s.year) nat_cmp)
 
 -- one more than the last number of the event's hazard and year, from 1
-abbrev pub wanted_in : List (Series × ℕ) → Event → ℕ
-wanted_in lasts e = 1 + unwrap_or (lookup (is_at (by_series (series_of e))) lasts) 0
+abbrev pub next_number : List (Series × ℕ) → Event → ℕ
+next_number lasts e = 1 + unwrap_or (lookup (is_at (by_series (series_of e))) lasts) 0
 
 -- the gap at an event, if there is one
 abbrev pub gap_in : List (Series × ℕ) → Event → List Gap
-gap_in lasts e = if e.etn == wanted_in lasts e then [] else record { event = e; wanted = wanted_in lasts e } ∷ []
+gap_in lasts e = if e.etn == next_number lasts e then [] else record { event = e; wanted = next_number lasts e } ∷ []
 
 -- the numbers are the last ones of these events
 abbrev pub AreLast : List (Series × ℕ) → List Event → Type 0
-AreLast lasts earlier = (e : Event) → wanted_in lasts e ≡ wanted_after earlier e
+AreLast lasts earlier = (e : Event) → next_number lasts e ≡ wanted_after earlier e

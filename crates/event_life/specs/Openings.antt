@@ -21,13 +21,13 @@ add_event e [] = e ∷ []
 add_event e (d ∷ events) = event_placed (by_event e d) e d events (add_event e events)
 
 -- the events of the NEW lines among these, in order, each once
-abbrev pub opened_by : List Line → List Event
-opened_by [] = []
-opened_by (line ∷ lines) = if is_new line.action then add_event line.event (opened_by lines) else opened_by lines
+abbrev pub events_opened_by : List Line → List Event
+events_opened_by [] = []
+events_opened_by (line ∷ lines) = if is_new line.action then add_event line.event (events_opened_by lines) else events_opened_by lines
 
 abbrev pub opened_from : List Row → List Product → List Event
 opened_from rows [] = []
-opened_from rows (p ∷ products) = opened_by (lawful_of (judged_product rows p)) ++ opened_from (rows_with rows p) products
+opened_from rows (p ∷ products) = events_opened_by (lawful_of (judged_product rows p)) ++ opened_from (rows_with rows p) products
 
 -- the events of lawful NEW lines, product by product, and within one by event
 abbrev pub opened_of : List Product → List Event

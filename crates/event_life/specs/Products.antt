@@ -62,16 +62,16 @@ abbrev pub is_open : List Row → ℕ → Event → Bool
 is_open rows t e = list_any (λ (r : Row). same_event r.event e && keeps_open t r) rows
 
 -- an open event of an earlier year has this hazard and number
-abbrev pub is_held : List Row → ℕ → Event → Bool
-is_held rows t e = list_any (λ (r : Row). same_hazard r.event.hazard e.hazard && (r.event.etn == e.etn) && nat_lt r.event.year e.year && keeps_open t r) rows
+abbrev pub is_number_held : List Row → ℕ → Event → Bool
+is_number_held rows t e = list_any (λ (r : Row). same_hazard r.event.hazard e.hazard && (r.event.etn == e.etn) && nat_lt r.event.year e.year && keeps_open t r) rows
 
 -- a live row of the line's event has the period that the line would open
-abbrev pub has_same : List Row → ℕ → Line → Bool
-has_same rows t line = list_any (λ (r : Row). same_event r.event line.event && is_live t r && same_at t r.period (opened_period line t)) rows
+abbrev pub has_opened_period : List Row → ℕ → Line → Bool
+has_opened_period rows t line = list_any (λ (r : Row). same_event r.event line.event && is_live t r && same_at t r.period (opened_period line t)) rows
 
 -- NoHigher is judged by the rows after; until these are known it is left aside
 abbrev pub around_but_higher : List Row → ℕ → Line → Bool → Around
-around_but_higher rows t line higher = record { opened = has_rows rows line.event; going = is_open rows t line.event; held = is_held rows t line.event; same = has_same rows t line; higher = higher }
+around_but_higher rows t line higher = record { opened = has_rows rows line.event; going = is_open rows t line.event; held = is_number_held rows t line.event; same = has_opened_period rows t line; higher = higher }
 
 -- Lines of a product. A routine line touches no life, so it is no line of its event.
 
@@ -162,8 +162,8 @@ later_event None e = Some e
 later_event (Some d) e = if nat_lt d.year e.year then Some e else Some d
 
 -- of the open events of a hazard and number the one of the greatest year
-abbrev pub going_in : List Row → Hazard → ℕ → ℕ → Option Event
-going_in rows h etn t = fold (λ (best : Option Event) (r : Row). if same_hazard r.event.hazard h && (r.event.etn == etn) && keeps_open t r then later_event best r.event else best) None rows
+abbrev pub latest_open_event : List Row → Hazard → ℕ → ℕ → Option Event
+latest_open_event rows h etn t = fold (λ (best : Option Event) (r : Row). if same_hazard r.event.hazard h && (r.event.etn == etn) && keeps_open t r then later_event best r.event else best) None rows
 
 abbrev pub event_of_issue : ℕ → Vtec → Event
 event_of_issue t vtec = record { hazard = vtec.hazard; etn = vtec.etn; year = year_of t }
@@ -174,7 +174,7 @@ is_new _ = false
 
 -- NEW opens one of the year of issue; another line is of the open one, or where there is none of the year of issue
 abbrev pub event_of : List Row → ℕ → Vtec → Event
-event_of rows t vtec = if is_new vtec.action then event_of_issue t vtec else unwrap_or (going_in rows vtec.hazard vtec.etn t) (event_of_issue t vtec)
+event_of rows t vtec = if is_new vtec.action then event_of_issue t vtec else unwrap_or (latest_open_event rows vtec.hazard vtec.etn t) (event_of_issue t vtec)
 
 abbrev pub end_of : Option ℕ → End
 end_of None = Ufn

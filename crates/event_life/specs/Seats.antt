@@ -16,8 +16,8 @@ IsSeat (Ok i) xs = i < length xs
 IsSeat (Err i) xs = i ≤ length xs
 
 -- the line is lawful and no UPG
-abbrev pub may_count : List Row → ℕ → List Line → Line → Bool
-may_count rows t earlier line = not (is_routine line.action) && not (is_upgrade line.action) && not (is_second earlier line) && is_none (breach_of_line (life_at rows line) line t (around_but_higher rows t line true))
+abbrev pub may_be_higher : List Row → ℕ → List Line → Line → Bool
+may_be_higher rows t earlier line = not (is_routine line.action) && not (is_upgrade line.action) && not (is_second earlier line) && is_none (breach_of_line (life_at rows line) line t (around_but_higher rows t line true))
 
 -- a UPG line speaks of the row
 abbrev pub is_upgraded : List Line → Row → Bool

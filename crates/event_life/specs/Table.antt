@@ -40,14 +40,14 @@ moves_begin None begin = false
 moves_begin (Some printed) begin = not (printed == begin)
 
 -- a begin is printed that is at most the minute
-abbrev pub prints_past : Option ℕ → ℕ → Bool
-prints_past None t = false
-prints_past (Some printed) t = nat_le printed t
+abbrev pub prints_begun : Option ℕ → ℕ → Bool
+prints_begun None t = false
+prints_begun (Some printed) t = nat_le printed t
 
 -- a begin after the minute is printed
-abbrev pub prints_later : Option ℕ → ℕ → Bool
-prints_later None t = false
-prints_later (Some printed) t = nat_lt t printed
+abbrev pub prints_to_come : Option ℕ → ℕ → Bool
+prints_to_come None t = false
+prints_to_come (Some printed) t = nat_lt t printed
 
 -- NEW, EXA, EXB: a zero begin is taken as the minute of the product
 abbrev pub opened_period : Line → ℕ → Period
@@ -78,15 +78,15 @@ abbrev pub continued_period : Life → Line → ℕ → Period
 continued_period life line t = record { begin = unwrap_or line.begin (min life.period.begin t); end = line.end }
 
 -- the period stays
-abbrev pub stays : Life → Line → ℕ → Bool
-stays life line t = same_at t life.period (continued_period life line t)
+abbrev pub keeps_period : Life → Line → ℕ → Bool
+keeps_period life line t = same_at t life.period (continued_period life line t)
 
 -- they differ in the last alone
 abbrev pub on_continuing : Life → Line → ℕ → Bool × Breach → List (Bool × Breach)
 on_continuing life line t last =
     ((life.ended || not (ends_after life.period.end t)) named NotLive)
-    ∷ (prints_past line.begin t named ZeroBegin)
-    ∷ ((prints_later line.begin t && nat_le life.period.begin t) named BegunMoved)
+    ∷ (prints_begun line.begin t named ZeroBegin)
+    ∷ ((prints_to_come line.begin t && nat_le life.period.begin t) named BegunMoved)
     ∷ (not (ends_after line.end (continued_period life line t).begin && ends_after line.end t) named NoLength)
     ∷ last
     ∷ []
@@ -118,9 +118,9 @@ abbrev pub on_life : Action → Life → Line → ℕ → Around → List (Bool 
 on_life New life line t around = on_new (not life.ended) line t around
 on_life Exa life line t around = on_joining (not life.ended) line t around (not around.same named PeriodMoved)
 on_life Exb life line t around = on_joining (not life.ended) line t around (around.same named PeriodSame)
-on_life Con life line t around = on_continuing life line t (not (stays life line t) named PeriodMoved)
-on_life Cor life line t around = on_continuing life line t (not (stays life line t) named PeriodMoved)
-on_life Ext life line t around = on_continuing life line t (stays life line t named PeriodSame)
+on_life Con life line t around = on_continuing life line t (not (keeps_period life line t) named PeriodMoved)
+on_life Cor life line t around = on_continuing life line t (not (keeps_period life line t) named PeriodMoved)
+on_life Ext life line t around = on_continuing life line t (keeps_period life line t named PeriodSame)
 on_life Can life line t around = on_ending life line t ((cancels_late life.period.end t named TooLate) ∷ [])
 on_life Exp life line t around = on_ending life line t ((expires_early life.period.end t named TooEarly) ∷ (expires_late life.period.end t named TooLate) ∷ [])
 on_life Upg life line t around = on_ending life line t ((not (ends_after life.period.end t) named TooLate) ∷ (not around.higher named NoHigher) ∷ [])

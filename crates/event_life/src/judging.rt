@@ -13,7 +13,7 @@ use hazard_types::desk_hazards::facts;
 use hazard_types::{End, Flood, Hazard, Line, List, Minute, Oom, Row, Vtec, Zone};
 use std::alloc::Global;
 
-/// Returns the end that a text prints; zeros (`None`) are until further notice.
+/// Returns the end that a P-VTEC string prints. Zeros, which are `None`, mean until further notice.
 fn end_of(end: &Option<Minute>) -> End
     ensures { result ≡ end_of end.now }
 {
@@ -23,8 +23,10 @@ fn end_of(end: &Option<Minute>) -> End
     }
 }
 
-/// Returns the line of a product, given what its text says of one zone. `rows` are the rows just
-/// before the product, and `t` is its issue minute.
+/// Returns what a product says of an event in one zone: the values of one P-VTEC string, with the
+/// H-VTEC values `flood`. `rows` are the rows just before the product, and `t` is its issue minute.
+/// The year of the event, which the text lacks, is that of the open event with its hazard and
+/// number, the latest one of several; for NEW, or if none is open, it is the year of `t`.
 pub fn line_of(rows: &[Row], t: Minute, zone: &Zone, vtec: &Vtec, flood: &Option<Flood>) -> Line
     ensures { result
         ≡ line_of rows.now t (record { zone = zone.now; vtec = vtec.now; flood = flood.now }) }
@@ -39,7 +41,8 @@ pub fn line_of(rows: &[Row], t: Minute, zone: &Zone, vtec: &Vtec, flood: &Option
     }
 }
 
-/// Whether the desk issues the hazard, and the hazard has a family.
+/// Whether the desk issues the hazard and the hazard has a family. A UPG line of such a hazard is
+/// lawful only if a live row of a higher rank of the family overlaps it.
 fn may_yield(hazard: &Hazard) -> bool
     ensures { result ≡ may_yield hazard.now }
 {
@@ -49,7 +52,8 @@ fn may_yield(hazard: &Hazard) -> bool
     }
 }
 
-/// Whether `high` has a higher rank than `low` in the same family.
+/// Whether the desk issues both hazards, they are of one family, and `high` has the higher rank in
+/// it.
 ///
 /// Source: docs/HAZARDS.md, "The hazards of the desk" (family, rank).
 fn outranks(high: &Hazard, low: &Hazard) -> bool
@@ -64,8 +68,9 @@ fn outranks(high: &Hazard, low: &Hazard) -> bool
     *family == *other && *under < *rank
 }
 
-/// Whether one of `rows` is live at `t`, of a higher rank of the family of `own`, and overlaps it
-/// in its zone.
+/// Whether a row of `rows` in the zone of `own` is live at minute `t`, is of the same family with a
+/// higher rank, and overlaps `own`. A row is live if no line has ended it and its end is after `t`;
+/// two rows overlap if each begins before the other ends.
 fn is_overlapped(rows: &[Row], t: Minute, own: &Row) -> bool
     ensures { result ≡ is_overlapped rows.now t (Some own.now) }
 {
@@ -77,9 +82,12 @@ fn is_overlapped(rows: &[Row], t: Minute, own: &Row) -> bool
     })
 }
 
-/// Whether a UPG line has its higher row: one of `after` that is live, of a higher rank of the
-/// family, and overlaps the line's row in its zone. True for a hazard without a family or one that
-/// the desk does not issue; `rows` are the rows just before the product.
+/// Whether a UPG line has the row of a higher rank of the family that it needs, or needs none
+/// because the desk does not issue its hazard or this hazard has no family. Such a row is one of
+/// `after`, the rows after the product with those of UPG lines ended; it is in the same zone, live
+/// at the issue minute `t`, and overlaps the row of the line. The row of the line is looked up in
+/// `rows`, those just before the product; if one is needed and it is not there, the answer is
+/// false.
 pub fn has_higher(rows: &[Row], t: Minute, after: &[Row], line: &Line) -> bool
     ensures { result ≡ (not (may_yield line.now.event.hazard)
         || is_overlapped after.now t (row_at rows.now line.now.event line.now.zone)) }
@@ -93,9 +101,11 @@ pub fn has_higher(rows: &[Row], t: Minute, after: &[Row], line: &Line) -> bool
     }
 }
 
-/// Returns the first breach of a line of a product; `None` for a lawful or a routine line. `rows`
-/// are the rows just before the product, `t` is its issue minute, and `earlier` are the product's
-/// lines before this one. `higher` is what `has_higher` returns for it.
+/// Returns the first rule that a line of a product breaks, or `None` for a lawful or a ROU line.
+/// `rows` are the rows just before the product, `t` is its issue minute, and `earlier` are the
+/// product's lines before this one; the breach is `Twice` if one of them, other than ROU, has the
+/// same event and zone. `higher` is whether a UPG line has the row of a higher rank that it needs,
+/// or needs none.
 pub fn breach_in(
     rows: &[Row],
     t: Minute,
@@ -117,9 +127,9 @@ pub fn breach_in(
     }
 }
 
-/// Returns the lines of a product, each with its first breach, or `None` for a lawful or a routine
-/// line. `rows` are the rows just before the product, by zone, then event, and `t` is its issue
-/// minute.
+/// Returns the lines of a product in their order, each with the first rule that it breaks, or
+/// `None` for a lawful or a ROU line. `rows` are the rows just before the product, in order by
+/// zone, then event, and `t` is its issue minute.
 ///
 /// # Errors
 ///

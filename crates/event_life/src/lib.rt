@@ -21,14 +21,14 @@ pub use laws::{
     rows_stay_in_order,
 };
 pub use life::{Around, Breach, Life, life_step};
-pub use openings::{Gap, gaps, opened_by};
+pub use openings::{Gap, events_opened_by, gaps};
 pub use periods::{ends_after, is_live, is_not_long_past, keeps_open, overlaps, same_at, same_end};
 pub use putting::{
-    end_upgraded, is_routine, is_upgrade, leaves_row, may_count, put, row_after, row_of, shown,
+    end_upgraded, is_routine, is_upgrade, leaves_row, may_be_higher, put, row_after, row_of, shown,
 };
 pub use rows::{
-    around, event_of, going_in, has_period, has_rows, has_same, is_held, is_open, later_event,
-    life_at, opened_period, row_at,
+    around, event_of, has_opened_period, has_period, has_rows, is_number_held, is_open,
+    later_event, latest_open_event, life_at, opened_period, row_at,
 };
 pub use step_laws::{
     can_comes_before_the_last_half_hour, con_and_cor_keep_the_period, ended_lives_are_opened_anew,

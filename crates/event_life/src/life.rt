@@ -3,7 +3,7 @@ ghost use Rattle.std.specs.Prelude.{◌≡◌, ◌≢◌, unwrap_or, min, [], �
 ghost use Rattle.hazard_types.specs.declared.codes.Action.TheVariants.{Rou};
 ghost use Rattle.event_life.specs.declared.life.Breach.TheVariants.{TooLate, TooEarly, NoHigher};
 ghost use Rattle.event_life.specs.Periods.{ends_after};
-ghost use Rattle.event_life.specs.Table.{◌named◌, first_of, on_new, on_joining, on_continuing, on_ending, on_life, on_nothing, continued_period, opened_period, stays, prints_past, prints_later, prints_begin_as_due, moves_begin, cancels_late, expires_early, expires_late, flood_after, life_after_line, breach_of_line, life_after_lawful_line, step};
+ghost use Rattle.event_life.specs.Table.{◌named◌, first_of, on_new, on_joining, on_continuing, on_ending, on_life, on_nothing, continued_period, opened_period, keeps_period, prints_begun, prints_to_come, prints_begin_as_due, moves_begin, cancels_late, expires_early, expires_late, flood_after, life_after_line, breach_of_line, life_after_lawful_line, step};
 
 use crate::periods::{ends_after, same_at, same_end};
 use hazard_types::{Action, End, Flood, Line, Minute, Period};
@@ -71,7 +71,7 @@ pub enum Breach {
     Twice,
 }
 
-/// Returns the printed begin of a line, or the issue minute `t` if it is zeros.
+/// Returns the begin that a line prints, or the issue minute `t` if it prints zeros.
 pub(crate) fn begin_of(line: &Line, t: Minute) -> Minute
     ensures { result ≡ unwrap_or line.now.begin t }
 {
@@ -81,8 +81,9 @@ pub(crate) fn begin_of(line: &Line, t: Minute) -> Minute
     }
 }
 
-/// Returns the first breach of a NEW line. `stands` is whether the event has an unended life in the
-/// zone.
+/// Returns the first breach of a NEW line, or `None` if there is none. `stands` is whether the
+/// event has an unended life in the zone, `t` is the issue minute, and `around` has what the other
+/// rows say of the event.
 fn new_breach(stands: bool, line: &Line, t: Minute, around: Around) -> Option<Breach>
     ensures { result ≡ first_of (on_new stands line.now t around) }
 {
@@ -102,8 +103,9 @@ fn new_breach(stands: bool, line: &Line, t: Minute, around: Around) -> Option<Br
     }
 }
 
-/// Returns the first breach of an EXA or EXB line; `last` if `fails_last` and no other applies.
-/// `stands` is whether the event has an unended life in the zone.
+/// Returns the first breach of an EXA or EXB line, or `None` if there is none; if it has no other
+/// breach and `fails_last` is true, it is `last`. `stands` is whether the event has an unended life
+/// in the zone, `t` is the issue minute, and `around` has what the other rows say of the event.
 fn joining_breach(
     stands: bool,
     line: &Line,
@@ -137,8 +139,9 @@ fn earlier(a: Minute, b: Minute) -> Minute
     if a.get() <= b.get() { a } else { b }
 }
 
-/// Returns the period after a CON, COR or EXT line. A begin of zeros keeps one that has come, and
-/// else is the issue minute.
+/// Returns the period after a CON, COR or EXT line: the begin and the end that the line prints. If
+/// it prints zeros for the begin, this is the earlier of the begin of `life`, what the lines before
+/// left, and the issue minute `t`.
 fn continued_period(life: &Life, line: &Line, t: Minute) -> Period
     ensures { result ≡ continued_period life.now line.now t }
 {
@@ -148,9 +151,9 @@ fn continued_period(life: &Life, line: &Line, t: Minute) -> Period
     }
 }
 
-/// Whether a line prints a begin that is not after `t`.
-fn prints_past(line: &Line, t: Minute) -> bool
-    ensures { result ≡ prints_past line.now.begin t }
+/// Whether a line prints a begin at or before the minute `t`; false if it prints zeros.
+fn prints_begun(line: &Line, t: Minute) -> bool
+    ensures { result ≡ prints_begun line.now.begin t }
 {
     match &line.begin {
         Some(begin) => begin.get() <= t.get(),
@@ -158,9 +161,9 @@ fn prints_past(line: &Line, t: Minute) -> bool
     }
 }
 
-/// Whether a line prints a begin after `t`.
-fn prints_later(line: &Line, t: Minute) -> bool
-    ensures { result ≡ prints_later line.now.begin t }
+/// Whether a line prints a begin after the minute `t`; false if it prints zeros.
+fn prints_to_come(line: &Line, t: Minute) -> bool
+    ensures { result ≡ prints_to_come line.now.begin t }
 {
     match &line.begin {
         Some(begin) => t.get() < begin.get(),
@@ -168,7 +171,9 @@ fn prints_later(line: &Line, t: Minute) -> bool
     }
 }
 
-/// Returns the first breach of a CON, COR or EXT line; `last` if `fails_last` and no other applies.
+/// Returns the first breach of a CON, COR or EXT line, or `None` if there is none; if it has no
+/// other breach and `fails_last` is true, it is `last`. `life` is what the lines before have left
+/// of the event in the zone, and `t` is the issue minute.
 fn continuing_breach(
     life: &Life,
     line: &Line,
@@ -181,9 +186,9 @@ fn continuing_breach(
     let period = continued_period(life, line, t);
     if life.ended || !ends_after(&life.period.end, t) {
         Some(Breach::NotLive)
-    } else if prints_past(line, t) {
+    } else if prints_begun(line, t) {
         Some(Breach::ZeroBegin)
-    } else if prints_later(line, t) && life.period.begin.get() <= t.get() {
+    } else if prints_to_come(line, t) && life.period.begin.get() <= t.get() {
         Some(Breach::BegunMoved)
     } else if !(ends_after(&line.end, period.begin) && ends_after(&line.end, t)) {
         Some(Breach::NoLength)
@@ -194,14 +199,17 @@ fn continuing_breach(
     }
 }
 
-/// Whether a CON, COR or EXT line leaves the period as it is.
-fn stays(life: &Life, line: &Line, t: Minute) -> bool
-    ensures { result ≡ stays life.now line.now t }
+/// Whether the period after a CON, COR or EXT line is the same as that of `life`, the one before
+/// it, at the issue minute `t`. It is the same if the ends are equal, and the begins are equal or
+/// both not after `t`.
+fn keeps_period(life: &Life, line: &Line, t: Minute) -> bool
+    ensures { result ≡ keeps_period life.now line.now t }
 {
     same_at(t, &life.period, &continued_period(life, line, t))
 }
 
-/// Whether a line prints a begin if `begin` is to come, and zeros if it has come.
+/// Whether a line prints its begin as it must: a minute if `begin`, that of the row before, is
+/// after the issue minute `t`, and zeros if it is not. Which minute it prints does not matter here.
 fn prints_begin_as_due(line: &Line, begin: Minute, t: Minute) -> bool
     ensures { result ≡ prints_begin_as_due line.now.begin begin t }
 {
@@ -211,7 +219,7 @@ fn prints_begin_as_due(line: &Line, begin: Minute, t: Minute) -> bool
     }
 }
 
-/// Whether a line prints another begin.
+/// Whether a line prints a begin other than `begin`; zeros are no begin.
 fn moves_begin(line: &Line, begin: Minute) -> bool
     ensures { result ≡ moves_begin line.now.begin begin }
 {
@@ -221,7 +229,10 @@ fn moves_begin(line: &Line, begin: Minute) -> bool
     }
 }
 
-/// Returns the first breach of those that CAN, EXP and UPG lines share.
+/// Returns the first breach of those that CAN, EXP and UPG lines share, or `None` if there is none.
+/// It is `NotLive` if a line has ended `life`, then `ZeroBegin` for a printed begin unless that of
+/// `life` is after the issue minute `t`, or for zeros if it is, then `PeriodMoved` for another
+/// begin or end than that of `life`.
 fn ending_breach(life: &Life, line: &Line, t: Minute) -> Option<Breach>
     ensures { result ≡ first_of (on_ending life.now line.now t []) }
 {
@@ -236,7 +247,9 @@ fn ending_breach(life: &Life, line: &Line, t: Minute) -> Option<Breach>
     }
 }
 
-/// Returns `TooLate` for a CAN line with half an hour or less to the end, or after it.
+/// Returns the breach that only CAN lines can have, or `None` if there is none. It is `TooLate` if
+/// the issue minute `t` is half an hour or less before the end of `life`, or later; for an end
+/// until further notice there is none.
 fn can_breach(life: &Life, t: Minute) -> Option<Breach>
     ensures { result ≡ first_of ((cancels_late life.now.period.end t named TooLate) ∷ []) }
 {
@@ -250,8 +263,9 @@ fn can_breach(life: &Life, t: Minute) -> Option<Breach>
     }
 }
 
-/// Returns `TooEarly` for an EXP line more than half an hour before the end, and `TooLate` for one
-/// more than half an hour after it.
+/// Returns the breach that only EXP lines can have, or `None` if there is none. It is `TooEarly` if
+/// the issue minute `t` is more than half an hour before the end of `life`, or if the end is until
+/// further notice, and `TooLate` if `t` is more than half an hour after the end.
 fn exp_breach(life: &Life, t: Minute) -> Option<Breach>
     ensures { result ≡ first_of ((expires_early life.now.period.end t named TooEarly)
         ∷ (expires_late life.now.period.end t named TooLate) ∷ []) }
@@ -268,8 +282,9 @@ fn exp_breach(life: &Life, t: Minute) -> Option<Breach>
     }
 }
 
-/// Returns `TooLate` for a UPG line at the end or later, and else `NoHigher` for one without a
-/// higher row.
+/// Returns the first breach that only UPG lines can have, or `None` if there is none. It is
+/// `TooLate` if the issue minute `t` is at the end of `life` or later, else `NoHigher` if
+/// `around.higher` is false, that is if no live row of a higher rank of the family overlaps.
 fn upg_breach(life: &Life, t: Minute, around: Around) -> Option<Breach>
     ensures { result ≡ first_of ((not (ends_after life.now.period.end t) named TooLate)
         ∷ (not around.higher named NoHigher) ∷ []) }
@@ -283,7 +298,9 @@ fn upg_breach(life: &Life, t: Minute, around: Around) -> Option<Breach>
     }
 }
 
-/// Returns the first breach of a line where its event has a life in the zone.
+/// Returns the first breach of a line whose event has a life in the zone, ended or not, or `None`
+/// for a lawful or a ROU line. `t` is the issue minute, and `around` has what the other rows say of
+/// the event. `Twice` is not found here.
 fn breach_on_life(life: &Life, line: &Line, t: Minute, around: Around) -> Option<Breach>
     ensures { result ≡ first_of (on_life line.now.action life.now line.now t around) }
 {
@@ -293,9 +310,21 @@ fn breach_on_life(life: &Life, line: &Line, t: Minute, around: Around) -> Option
         Action::Exa => joining_breach(stands, line, t, around, !around.same, Breach::PeriodMoved),
         Action::Exb => joining_breach(stands, line, t, around, around.same, Breach::PeriodSame),
         Action::Con | Action::Cor => {
-            continuing_breach(life, line, t, !stays(life, line, t), Breach::PeriodMoved)
+            continuing_breach(
+                life,
+                line,
+                t,
+                !keeps_period(life, line, t),
+                Breach::PeriodMoved,
+            )
         }
-        Action::Ext => continuing_breach(life, line, t, stays(life, line, t), Breach::PeriodSame),
+        Action::Ext => continuing_breach(
+            life,
+            line,
+            t,
+            keeps_period(life, line, t),
+            Breach::PeriodSame,
+        ),
         Action::Can => ending_breach(life, line, t).or(can_breach(life, t)),
         Action::Exp => ending_breach(life, line, t).or(exp_breach(life, t)),
         Action::Upg => ending_breach(life, line, t).or(upg_breach(life, t, around)),
@@ -303,7 +332,9 @@ fn breach_on_life(life: &Life, line: &Line, t: Minute, around: Around) -> Option
     }
 }
 
-/// Returns the first breach of a line where its event has no life in the zone.
+/// Returns the first breach of a line whose event has no life in the zone, or `None` for a lawful
+/// or a ROU line. It is `NotLive` unless the line is NEW, EXA, EXB or ROU. `t` is the issue minute,
+/// and `around` has what the other rows say of the event.
 fn breach_on_nothing(line: &Line, t: Minute, around: Around) -> Option<Breach>
     ensures { result ≡ first_of (on_nothing line.now.action line.now t around) }
 {
@@ -316,7 +347,9 @@ fn breach_on_nothing(line: &Line, t: Minute, around: Around) -> Option<Breach>
     }
 }
 
-/// Returns the first breach of a line, or `None` if it is lawful.
+/// Returns the first breach of a line, or `None` if it is lawful or ROU; `Twice` is not found here.
+/// `life` is what the lines before have left of the event in the zone, or `None` if there were
+/// none. `t` is the issue minute, and `around` has what the other rows say of the event.
 #[tactic(auto, unfolding(crate::specs::Table::breach_of_line))]
 pub(crate) fn breach_of_line(
     life: &Option<Life>,
@@ -332,7 +365,8 @@ pub(crate) fn breach_of_line(
     }
 }
 
-/// Returns the H-VTEC values after a line: its own, or those of the life if it has none.
+/// Returns the H-VTEC values after a line: the line's own, or those of `life`, the one before, if
+/// the line has none.
 fn flood_after(life: &Life, line: &Line) -> Option<Flood>
     ensures { result ≡ flood_after life.now.flood line.now.flood }
 {
@@ -342,7 +376,8 @@ fn flood_after(life: &Life, line: &Line) -> Option<Flood>
     }
 }
 
-/// Returns the life that a NEW, EXA or EXB line opens.
+/// Returns the life that a NEW, EXA or EXB line opens: the line's period and H-VTEC values, not
+/// ended. If the line prints zeros for the begin, this is the issue minute `t`.
 fn opened_life(line: &Line, t: Minute) -> Life
     ensures { result
         ≡ record { period = opened_period line.now t; flood = line.now.flood; ended = false } }
@@ -357,7 +392,9 @@ fn opened_life(line: &Line, t: Minute) -> Life
     }
 }
 
-/// Returns what a lawful line leaves of a life. NEW, EXA and EXB start a life over.
+/// Returns the life after a lawful line, where `life`, ended or not, is the one before it and `t`
+/// the issue minute. NEW, EXA and EXB start a life over; CON, COR and EXT carry it on; CAN, EXP and
+/// UPG end it.
 fn life_after_line(life: &Life, line: &Line, t: Minute) -> Life
     ensures { result ≡ life_after_line line.now.action life.now line.now t }
 {
@@ -376,7 +413,8 @@ fn life_after_line(life: &Life, line: &Line, t: Minute) -> Life
     }
 }
 
-/// Returns the life that a lawful line leaves.
+/// Returns the life after a lawful line of issue minute `t`. `life` is what the lines before have
+/// left of the event in the zone; if it is `None`, the line opens one.
 #[tactic(auto, unfolding(crate::specs::Table::life_after_lawful_line))]
 pub(crate) fn life_after_lawful_line(life: &Option<Life>, line: &Line, t: Minute) -> Life
     ensures { result ≡ life_after_lawful_line life.now line.now t }
@@ -388,7 +426,8 @@ pub(crate) fn life_after_lawful_line(life: &Option<Life>, line: &Line, t: Minute
 }
 
 /// Returns the life that a line leaves of `life`, which is `None` where the event has none in the
-/// zone. `t` is the issue minute of the product; the line is not ROU, which touches no life.
+/// zone. `t` is the issue minute of the product, and `around` has what the other rows say of the
+/// event. The line must not be ROU, which touches no life.
 ///
 /// # Errors
 ///

@@ -4,7 +4,7 @@ ghost use Rattle.event_life.specs.Periods.{ends_after, is_not_long_past, same_en
 
 use hazard_types::{End, Minute, Period, Row};
 
-/// Whether `end` is after `t`. Until further notice always is.
+/// Whether the end is after the minute `t`; an end until further notice is after every minute.
 pub fn ends_after(end: &End, t: Minute) -> bool
     ensures { result ≡ ends_after end.now t }
 {
@@ -14,7 +14,8 @@ pub fn ends_after(end: &End, t: Minute) -> bool
     }
 }
 
-/// Whether `end` is at most half an hour before `t`, or not before it.
+/// Whether the minute `t` is at most half an hour after the end, or before it; true for an end
+/// until further notice.
 pub fn is_not_long_past(end: &End, t: Minute) -> bool
     ensures { result ≡ is_not_long_past end.now t }
 {
@@ -59,15 +60,16 @@ pub fn same_at(t: Minute, p: &Period, q: &Period) -> bool
     same_end(&p.end, &q.end) && (b == c || (b <= now && c <= now))
 }
 
-/// Whether a row is live at `t`: no line has ended it, and its end is after `t`.
+/// Whether a row is live at the minute `t`: no line has ended it, and its end is after `t` or until
+/// further notice.
 pub fn is_live(row: &Row, t: Minute) -> bool
     ensures { result ≡ is_live t row.now }
 {
     !row.ended && ends_after(&row.period.end, t)
 }
 
-/// Whether a row keeps its event open at `t`: no line has ended it, and its end is at most half an
-/// hour past.
+/// Whether a row keeps its event open at the minute `t`: no line has ended it, and its end is until
+/// further notice, or at most half an hour before `t`, or not before it.
 pub fn keeps_open(row: &Row, t: Minute) -> bool
     ensures { result ≡ keeps_open t row.now }
 {

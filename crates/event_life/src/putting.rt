@@ -2,7 +2,7 @@
 ghost use Rattle.std.specs.Prelude.{◌≡◌, ◌≤◌, ◌<◌, ◌&&◌, not, [], length, map, is_none, IfOk, OnOk, OnErr};
 ghost use Rattle.std.specs.Vec.{vec_capacity};
 ghost use Rattle.event_life.specs.Products.{by_key, put, row_of, row_after, is_routine, is_upgrade, concerns, is_second, rows_after_all_but_upgrades, rows_for_higher};
-ghost use Rattle.event_life.specs.Seats.{seated, IsSeat, is_upgraded, end_if_upgraded, may_count};
+ghost use Rattle.event_life.specs.Seats.{seated, IsSeat, is_upgraded, end_if_upgraded, may_be_higher};
 ghost use Rattle.event_life.specs.Shown.{shown_at};
 
 use crate::life::{Breach, Life, breach_of_line, life_after_lawful_line};
@@ -12,16 +12,16 @@ use hazard_types::{Action, Event, Line, List, Minute, Oom, Row, Zone};
 use std::alloc::{AllocError, Global};
 use std::cmp::Ordering;
 
-/// Compares two rows by zone, then event.
+/// Returns how row `a` compares with row `b`: by zone, then by event.
 fn order(a: &Row, b: &Row) -> Ordering
     ensures { result ≡ by_key a.now b.now }
 {
     a.zone.cmp(&b.zone).then(a.event.order(&b.event))
 }
 
-/// Returns `Ok` with the index of the row of this zone and event, or `Err` with the index where it
-/// belongs.
-fn seat_of(rows: &[Row], row: &Row) -> Result<usize, usize>
+/// Returns `Ok` with the index of the row that has the zone and the event of `row`, or `Err` with
+/// the index at which `row` would have to be inserted. `rows` must be in order by zone, then event.
+fn find_row(rows: &[Row], row: &Row) -> Result<usize, usize>
     ensures seat { IsSeat result rows.now }
     ensures seated { seated result row.now rows.now ≡ put row.now rows.now }
 {
@@ -35,9 +35,9 @@ fn seat_of(rows: &[Row], row: &Row) -> Result<usize, usize>
     Err(rows.len())
 }
 
-/// Replaces the row of the same zone and event, or inserts the row in order. `rows` are by zone,
-/// then event. When it fails, they are as before; it takes memory only if they outgrow their
-/// capacity.
+/// Replaces the row that has the zone and the event of `row`, or inserts `row` if there is none.
+/// `rows` must be in order by zone, then event, and stay so. If it fails, they are as before; it
+/// takes memory only if they outgrow their capacity.
 ///
 /// # Errors
 ///
@@ -48,7 +48,7 @@ pub fn put(rows: &mut Vec<Row>, row: &Row) -> Result<(), Oom>
     ensures err { OnErr result (vec_capacity rows.old < length (put row.now rows.old.items)) }
     ensures kept { OnErr result (rows.new.items ≡ rows.old.items) }
 {
-    match seat_of(rows, row) {
+    match find_row(rows, row) {
         Ok(place) => rows[place] = *row,
         Err(place) => rows.insert(place, *row)?,
     }
@@ -69,14 +69,14 @@ pub fn is_upgrade(action: &Action) -> bool
     matches!(action, Action::Upg)
 }
 
-/// Whether a line is of the event and zone; a routine line is of none.
+/// Whether a line is of this event and this zone, and its action is not ROU.
 pub(crate) fn concerns(event: &Event, zone: &Zone, line: &Line) -> bool
     ensures { result ≡ concerns event.now zone.now line.now }
 {
     !is_routine(&line.action) && line.event == *event && line.zone == *zone
 }
 
-/// Whether one of the earlier lines is of the event and zone of `line`.
+/// Whether one of the earlier lines, other than ROU, has the event and zone of `line`.
 pub(crate) fn is_second(earlier: &[Line], line: &Line) -> bool
     ensures { result ≡ is_second earlier.now line.now }
 {
@@ -85,7 +85,8 @@ pub(crate) fn is_second(earlier: &[Line], line: &Line) -> bool
         .any(|other| concerns(&line.event, &line.zone, other))
 }
 
-/// Whether a line that was judged has no breach and is not ROU.
+/// Whether a judged line leaves a row: it has no breach, and its action is not ROU. `judged` is the
+/// line with its first breach, or `None` for a lawful or a ROU line.
 pub fn leaves_row(judged: &(Line, Option<Breach>)) -> bool
     ensures { result ≡ (not (is_routine judged.now.0.action) && is_none judged.now.1) }
 {
@@ -93,7 +94,8 @@ pub fn leaves_row(judged: &(Line, Option<Breach>)) -> bool
     !is_routine(&line.action) && breach.is_none()
 }
 
-/// Returns the row of a line's event and zone with this life.
+/// Returns the row with the line's event and zone, and the period, the H-VTEC values and the ended
+/// mark of `life`.
 pub fn row_of(line: &Line, life: &Life) -> Row
     ensures { result ≡ row_of line.now life.now }
 {
@@ -106,19 +108,19 @@ pub fn row_of(line: &Line, life: &Life) -> Row
     }
 }
 
-/// Returns the row that a lawful line leaves. `rows` are the rows just before the product, and `t`
-/// is its issue minute.
+/// Returns the row that a lawful line other than ROU leaves of its event in its zone. `rows` are
+/// the rows just before the product, and `t` is its issue minute.
 pub fn row_after(rows: &[Row], t: Minute, line: &Line) -> Row
     ensures { result ≡ row_after rows.now t line.now }
 {
     row_of(line, &life_after_lawful_line(&life_at(rows, line), line, t))
 }
 
-/// Whether a line is lawful and neither UPG nor ROU, so that its row may be the higher row of a UPG
-/// line. `rows` are the rows just before the product, `t` is its issue minute, and `earlier` are
-/// the product's lines before this one.
-pub fn may_count(rows: &[Row], t: Minute, earlier: &[Line], line: &Line) -> bool
-    ensures { result ≡ may_count rows.now t earlier.now line.now }
+/// Whether a line is lawful and neither UPG nor ROU, so that the row it leaves may be the row of a
+/// higher rank that a UPG line needs. `rows` are the rows just before the product, `t` is its issue
+/// minute, and `earlier` are the product's lines before this one.
+pub fn may_be_higher(rows: &[Row], t: Minute, earlier: &[Line], line: &Line) -> bool
+    ensures { result ≡ may_be_higher rows.now t earlier.now line.now }
 {
     let breach = breach_of_line(&life_at(rows, line), line, t, around(rows, t, line, true));
     !is_routine(&line.action)
@@ -127,7 +129,8 @@ pub fn may_count(rows: &[Row], t: Minute, earlier: &[Line], line: &Line) -> bool
         && breach.is_none()
 }
 
-/// Returns the rows after the lawful lines other than UPG.
+/// Returns the rows after the lawful lines of a product other than UPG. `rows` are the rows just
+/// before the product, by zone, then event, and `t` is its issue minute.
 fn rows_after_all_but_upgrades(
     alloc: Global,
     rows: &[Row],
@@ -139,21 +142,22 @@ fn rows_after_all_but_upgrades(
 {
     let mut after = Vec::from_slice(alloc, rows)?;
     for (place, line) in lines.iter().enumerate() {
-        if may_count(rows, t, &lines[..place], line) {
+        if may_be_higher(rows, t, &lines[..place], line) {
             put(&mut after, &row_after(rows, t, line))?;
         }
     }
     Ok(after)
 }
 
-/// Whether a UPG line is of the row.
+/// Whether one of the lines is UPG, lawful or not, and has the event and zone of the row.
 fn is_upgraded(lines: &[Line], row: &Row) -> bool
     ensures { result ≡ is_upgraded lines.now row.now }
 {
     lines.iter().any(|line| is_upgrade(&line.action) && concerns(&row.event, &row.zone, line))
 }
 
-/// Returns the row, as ended if a UPG line is of it.
+/// Returns the row, marked as ended if one of the lines is UPG, lawful or not, and has the event
+/// and zone of the row.
 fn end_if_upgraded(lines: &[Line], row: &Row) -> Row
     ensures { result ≡ end_if_upgraded lines.now row.now }
 {
@@ -166,7 +170,8 @@ fn end_if_upgraded(lines: &[Line], row: &Row) -> Row
     }
 }
 
-/// Returns the rows, where each is ended that a UPG line is of, lawful or not.
+/// Returns the rows in their order, each marked as ended if one of the lines is UPG, lawful or not,
+/// and has the event and zone of the row.
 ///
 /// # Errors
 ///
@@ -179,8 +184,10 @@ pub fn end_upgraded(alloc: Global, lines: &[Line], rows: &[Row]) -> Result<Vec<R
         .collect(alloc)
 }
 
-/// Returns the rows among which the higher row of a UPG line is looked for: those after the lawful
-/// lines other than UPG, where each that has a UPG line is ended.
+/// Returns the rows in which the row of a higher rank that a UPG line needs is looked for. They are
+/// the rows after the product's lawful lines other than UPG, each marked as ended if its event and
+/// zone have a UPG line in `lines`, lawful or not. `rows` are the rows just before the product, in
+/// order by zone, then event, and `t` is its issue minute.
 ///
 /// Source: docs/DECISIONS.md, "Lives" (NoHigher).
 #[tactic(auto, using(crate::proofs::SeatLemmas::end_upgraded_map))]
@@ -196,7 +203,8 @@ pub(crate) fn rows_for_higher(
     Ok(end_upgraded(alloc, lines, &after)?)
 }
 
-/// Returns the rows that are live at `t`.
+/// Returns the rows, in their order, that no line has ended and whose end is after the minute `t`
+/// or until further notice.
 fn live(alloc: Global, rows: &[Row], t: Minute) -> Result<Vec<Row>, AllocError>
     ensures { IfOk result (λ live. live.items ≡ shown_at t rows.now) }
 {
@@ -206,8 +214,8 @@ fn live(alloc: Global, rows: &[Row], t: Minute) -> Result<Vec<Row>, AllocError>
         .collect(alloc)
 }
 
-/// Returns the rows that are shown at `t`: no line has ended them, and their end is after `t` or
-/// until further notice.
+/// Returns the rows, in their order, that are shown at the minute `t`: no line has ended them, and
+/// their end is after `t` or until further notice.
 ///
 /// # Errors
 ///

@@ -18,9 +18,9 @@ pub fn new_opens_an_event()
         IsOk (step before line t around) ↔ (HasEnded before × OpensEvent line t around) }
 {}
 
-/// EXA is lawful exactly if the event has no unended life in the zone and is open, the period
-/// begins at the issue minute or later and ends after its begin, and a live row of the event has
-/// that period.
+/// EXA is lawful exactly if the event has no unended life in the zone and is open, the line's
+/// period begins at the issue minute or later and ends after its begin, and a live row of the event
+/// has the same period.
 pub fn exa_joins_a_period_of_the_event()
     ensures { (before : Option Life) (line : Line) (t : ℕ) (around : Around) →
         line.action ≡ Exa →
@@ -28,9 +28,9 @@ pub fn exa_joins_a_period_of_the_event()
         ↔ (HasEnded before × JoinsEvent line t around × (around.same ≡ true)) }
 {}
 
-/// EXB is lawful exactly if the event has no unended life in the zone and is open, the period
-/// begins at the issue minute or later and ends after its begin, and no live row of the event has
-/// that period.
+/// EXB is lawful exactly if the event has no unended life in the zone and is open, the line's
+/// period begins at the issue minute or later and ends after its begin, and no live row of the
+/// event has the same period.
 pub fn exb_joins_at_another_period()
     ensures { (before : Option Life) (line : Line) (t : ℕ) (around : Around) →
         line.action ≡ Exb →
@@ -38,8 +38,11 @@ pub fn exb_joins_at_another_period()
         ↔ (HasEnded before × JoinsEvent line t around × (around.same ≡ false)) }
 {}
 
-/// CON and COR are lawful exactly on a live row whose period stays the same. They print a begin
-/// only if it and the row's begin are after the issue minute.
+/// CON and COR are lawful exactly if the event has a live row in the zone (no line has ended it,
+/// and its end is after the issue minute), the line leaves the row's period the same, and its end
+/// is after its begin and after the issue minute. They may print a begin only if it and the row's
+/// begin are after the issue minute. Periods are the same if their ends are equal, and their begins
+/// are equal or both not after the issue minute.
 pub fn con_and_cor_keep_the_period()
     ensures con { (before : Option Life) (line : Line) (t : ℕ) (around : Around) →
         line.action ≡ Con →
@@ -51,8 +54,10 @@ pub fn con_and_cor_keep_the_period()
         ↔ IsSomeAnd before (λ life. GoesOnFrom life line t × Stays life line t) }
 {}
 
-/// EXT is lawful exactly on a live row whose period changes, with an end after the begin and after
-/// the issue minute.
+/// EXT is lawful exactly if the event has a live row in the zone (no line has ended it, and its end
+/// is after the issue minute), the line changes the row's period, and its end is after its begin
+/// and after the issue minute. It may print a begin only if it and the row's begin are after the
+/// issue minute.
 pub fn ext_changes_the_period()
     ensures { (before : Option Life) (line : Line) (t : ℕ) (around : Around) →
         line.action ≡ Ext →
@@ -60,8 +65,9 @@ pub fn ext_changes_the_period()
         ↔ IsSomeAnd before (λ life. GoesOnFrom life line t × (¬ Stays life line t)) }
 {}
 
-/// CAN is lawful exactly on a row that no line has ended and whose period it prints, more than half
-/// an hour before the end; always, if that is until further notice.
+/// CAN is lawful exactly if the event has a row in the zone that no line has ended, the line prints
+/// the row's period, and the issue minute is more than half an hour before the row's end. An end
+/// until further notice is never too near.
 pub fn can_comes_before_the_last_half_hour()
     ensures { (before : Option Life) (line : Line) (t : ℕ) (around : Around) →
         line.action ≡ Can →
@@ -69,8 +75,9 @@ pub fn can_comes_before_the_last_half_hour()
         ↔ IsSomeAnd before (λ life. EndsAsPrinted life line t × IsLongBefore t life.period.end) }
 {}
 
-/// EXP is lawful exactly on a row that no line has ended and whose period it prints, at most half
-/// an hour before or after the end; never, if that is until further notice.
+/// EXP is lawful exactly if the event has a row in the zone that no line has ended, the line prints
+/// the row's period, and the issue minute is at most half an hour before or after the row's end.
+/// For an end until further notice it is never lawful.
 pub fn exp_comes_within_half_an_hour_of_the_end()
     ensures { (before : Option Life) (line : Line) (t : ℕ) (around : Around) →
         line.action ≡ Exp →
@@ -78,8 +85,10 @@ pub fn exp_comes_within_half_an_hour_of_the_end()
         ↔ IsSomeAnd before (λ life. EndsAsPrinted life line t × IsNear t life.period.end) }
 {}
 
-/// UPG is lawful exactly on a row that no line has ended and whose period it prints, before the
-/// end, if a higher row overlaps, the hazard has no family, or the desk does not issue it.
+/// UPG is lawful exactly if the event has a row in the zone that no line has ended, the line prints
+/// the row's period, the issue minute is before the row's end, and `around.higher` is true. The
+/// last means that a live row of a higher rank of the family overlaps, or that the hazard has no
+/// family or is not issued by the desk.
 pub fn upg_comes_before_the_end()
     ensures { (before : Option Life) (line : Line) (t : ℕ) (around : Around) →
         line.action ≡ Upg →
@@ -88,10 +97,11 @@ pub fn upg_comes_before_the_end()
         (λ life. EndsAsPrinted life line t × IsBefore t life.period.end × (around.higher ≡ true)) }
 {}
 
-/// What lawful lines leave. A line that opens leaves its period, with the issue minute for a begin
-/// of zeros; one that goes on leaves its end and begin, with the earlier of issue minute and the
-/// row's begin for zeros; one that ends leaves the row's period. H-VTEC values replace those of the
-/// life, and a line without leaves these.
+/// A lawful NEW, EXA or EXB line leaves its printed period, CON, COR or EXT its printed period as
+/// well, and CAN, EXP or UPG the period of the row before, ended. For a begin of zeros NEW, EXA and
+/// EXB take the issue minute, and CON, COR and EXT the earlier of the issue minute and the begin of
+/// the row before. The H-VTEC values are the line's own; if it has none, those of the row before
+/// stay, except after NEW, EXA and EXB.
 pub fn lawful_lines_leave()
     ensures opened { (before : Option Life) (line : Line) (t : ℕ) (around : Around) →
         opens line.action ≡ true → IfOk (step before line t around) (IsOpened line t) }
@@ -102,8 +112,8 @@ pub fn lawful_lines_leave()
         ends line.action ≡ true → IfOk (step (Some life) line t around) (IsEnded life line) }
 {}
 
-/// On a life that a line has ended only NEW, EXA and EXB may be lawful, and these are judged, and
-/// leave a life, as where there is none. ROU touches no life.
+/// Where a line has ended the life of an event in a zone, of the lines other than ROU only NEW, EXA
+/// and EXB may be lawful. These are judged, and leave a life, as if there had been none.
 pub fn ended_lives_are_opened_anew()
     ensures opening { (life : Life) (line : Line) (t : ℕ) (around : Around) →
         is_routine line.action ≡ false → life.ended ≡ true → IsOk (step (Some life) line t around) →

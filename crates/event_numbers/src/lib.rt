@@ -46,14 +46,16 @@ impl Model for Numbers {
         IsStrictlySortedBy by_count n.counted.items × AreNumbers n.counted.items };
 }
 
-/// Compares the key of a count with a hazard and year.
+/// Returns whether the hazard and year of a count come before `h` and `year` (`Less`), after them
+/// or are the same. The order is by hazard, then by year.
 fn cmp_key(count: &Count, h: &Hazard, year: u16) -> Ordering
     ensures { result ≡ cmp_key h.now year count.now }
 {
     count.hazard.cmp(h).then(count.year.cmp(&year))
 }
 
-/// Returns how many counts come before a hazard and year.
+/// Returns how many of the counts come before that of hazard `h` and `year`. They must be in order
+/// by hazard, then year.
 fn counts_before(counted: &[Count], h: &Hazard, year: u16) -> usize
     requires { IsStrictlySortedBy by_count counted.now }
     ensures bound { result ≤ length counted.now }
@@ -67,9 +69,9 @@ fn counts_before(counted: &[Count], h: &Hazard, year: u16) -> usize
     )
 }
 
-/// Returns `Ok` with the index of the count of a hazard and year, or `Err` with the index where it
-/// belongs.
-fn place_of(counted: &[Count], h: &Hazard, year: u16) -> Result<usize, usize>
+/// Returns the index of the count of hazard `h` and `year` in `counted`, or as `Err` the index at
+/// which it belongs. The counts must be in order by hazard, then year.
+fn find_count(counted: &[Count], h: &Hazard, year: u16) -> Result<usize, usize>
     requires { IsStrictlySortedBy by_count counted.now }
     ensures found { IfOk result (IsPlaceOf h.now year counted.now) }
     ensures absent { IfErr result (IsGapFor h.now year counted.now) }
@@ -86,19 +88,20 @@ fn place_of(counted: &[Count], h: &Hazard, year: u16) -> Result<usize, usize>
     }
 }
 
-/// Returns how many numbers of a hazard were drawn in a year.
+/// Returns how many numbers of hazard `h` were drawn in `year`, or 0 if it has no count. The counts
+/// must be in order by hazard, then year.
 fn count_of(counted: &[Count], h: &Hazard, year: u16) -> u16
     requires { IsStrictlySortedBy by_count counted.now }
     ensures { result ≡ count_of counted.now h.now year }
 {
-    match place_of(counted, h, year) {
+    match find_count(counted, h, year) {
         Ok(place) => counted[place].count,
         Err(_) => 0,
     }
 }
 
 impl Numbers {
-    /// Empty, without capacity.
+    /// Returns numbers of which none is drawn yet, without capacity.
     pub fn new(alloc: Global) -> Self
         ensures { result.counts ≡ [] }
     {
@@ -107,7 +110,7 @@ impl Numbers {
         }
     }
 
-    /// Takes memory for `n` draws, of any hazards and years. When it fails, nothing changes.
+    /// Reserves memory for `n` draws, of whatever hazards and years. If it fails, nothing changes.
     ///
     /// # Errors
     ///
@@ -122,8 +125,9 @@ impl Numbers {
         Ok(())
     }
 
-    /// Returns the number that the next event of a hazard gets in a year: one more than the numbers
-    /// drawn. 10,000 means that all four-digit numbers are drawn.
+    /// Returns the event tracking number that the next event of hazard `h` gets in `year`: one more
+    /// than how many numbers of it were drawn in that year. 10,000 means that all numbers of four
+    /// digits are drawn.
     pub fn next(&self, h: Hazard, year: u16) -> u16
         ensures value { result ≡ count_of self.now.counts h year + 1 }
         ensures range { result ≤ 10000 }
@@ -131,15 +135,16 @@ impl Numbers {
         count_of(&self.counted, &h, year) + 1
     }
 
-    /// Draws the next number of a hazard in a year, which must be at most 9,999. It takes no memory
-    /// beyond what `reserve` took, and uses up at most one draw of that.
+    /// Draws the number of hazard `h` and `year` that `next` returns: adds one to the count of
+    /// those drawn. The number must be at most 9,999, and `reserve` must have taken memory for a
+    /// draw.
     pub fn commit(&mut self, h: Hazard, year: u16)
         requires number { count_of self.old.counts h year + 1 ≤ 9999 }
         requires spare { 0 < self.old.spare }
         ensures drawn { DrawsOne self.old.counts self.new.counts h year }
         ensures spare { self.old.spare ≤ self.new.spare + 1 }
     {
-        match place_of(&self.counted, &h, year) {
+        match find_count(&self.counted, &h, year) {
             Ok(place) => {
                 let count = &mut self.counted[place];
                 count.count += 1;
@@ -158,8 +163,9 @@ impl Numbers {
         }
     }
 
-    /// Draws the next number of its hazard and year for each of the events, in order. It takes no
-    /// memory beyond what `reserve` took.
+    /// Draws one number of the hazard and year of each event, in the order of `events`, as `commit`
+    /// does. Each number drawn must be at most 9,999, and `reserve` must have taken memory for as
+    /// many draws. The numbers that the events have are not looked at.
     pub fn draw(&mut self, events: &[Event])
         requires numbers { AreDrawnInOrder self.old.counts events.now }
         requires spare { length events.now ≤ self.old.spare }

@@ -64,7 +64,8 @@ impl Model for Follower {
 }
 
 impl Follower {
-    /// Returns a follower of an office and class that has taken no text.
+    /// Returns a follower of the products of an office, such as `KLWX`, that has taken none yet. Of
+    /// each product it will use only the lines of this office and class.
     pub fn new(alloc: Global, office: [u8; 4], class: Class) -> Self
         ensures office { result.office ≡ office }
         ensures class { result.class ≡ class }
@@ -79,14 +80,18 @@ impl Follower {
         }
     }
 
-    /// Returns how many texts were taken. The next question is the one after this place.
+    /// Returns the follower's place: how many products it has taken. The next one to ask the office
+    /// for is the product after this place.
     pub fn place(&self) -> u32
         ensures { result ≡ place_of self.now }
     {
         self.place
     }
 
-    /// Takes a product by its frame, and its lines as they were judged by the rows before it.
+    /// Adds the product of `frame` to those that were taken, and replaces the rows by the rows
+    /// after it. `judged` is what `judged_by_frame` returns for `frame` and the rows before the
+    /// product; fewer than 8,192 products may have been taken. It errs if memory runs out or the
+    /// rows were lost before; then the product is not taken, and the rows may be lost.
     fn keep(&mut self, alloc: Global, frame: &Frame, judged: &[Run]) -> Result<(), Oom>
         requires few { place_of self.old < 8192 }
         requires judged { expand judged.now ≡ judged_product (rows_of self.old.products)
@@ -110,7 +115,10 @@ impl Follower {
         Ok(())
     }
 
-    /// Takes a product by its frame. Lines of another office or class are passed over.
+    /// Adds the product that was read as `frame` to those that were taken, and replaces the rows by
+    /// the rows after it; its lines of another office or class are passed over. Fewer than 8,192
+    /// products may have been taken before. It errs if memory runs out or the rows were lost
+    /// before; then the product is not taken, and the rows may be lost.
     fn take_frame(&mut self, alloc: Global, frame: &Frame) -> Result<(), Oom>
         requires { place_of self.old < 8192 }
         ensures office { self.new.office ≡ self.old.office }
@@ -126,8 +134,9 @@ impl Follower {
         self.keep(alloc, frame, judged.as_slice())
     }
 
-    /// Takes the text that answers the question after the place `after`, if that is the follower's
-    /// place; otherwise it is passed over. `after` is at most the place, which must be below 8,192.
+    /// Takes `text`, the answer to the question for the product after the place `after`, and
+    /// returns `New`, if `after` is the follower's place. If `after` is less, it changes nothing
+    /// and returns `Old`. `after` must be at most the place, and the place below 8,192.
     ///
     /// # Errors
     ///
@@ -159,7 +168,8 @@ impl Follower {
         Ok(Heard::New)
     }
 
-    /// Returns the rows that the products leave live at `t`, by zone, then event.
+    /// Returns the rows that are live at the minute `t` after all products that were taken, in
+    /// ascending order of zone, then event.
     ///
     /// # Errors
     ///

@@ -36,7 +36,10 @@ pub enum Head {
     Whole(Shape),
 }
 
-/// Returns what the parts of a whole head say.
+/// Returns what a whole head says: where the body starts, its length, the status, and whether the
+/// link closes. `Bad` for a status other than 200 and 404, or without exactly one `Content-Length`
+/// of at most 65,536. `fields` and `spans` are what was parsed of the head at the start of `bytes`,
+/// as ranges of `bytes`; only the first `spans.headers` of `fields` count.
 fn shape_of(bytes: &[u8], fields: &[HeaderSpan], spans: &ResponseSpans) -> Head
     requires within { IsResponseWithin bytes.now fields.now spans.now }
     requires is { IsResponseOf bytes.now fields.now spans.now }
@@ -58,7 +61,10 @@ fn shape_of(bytes: &[u8], fields: &[HeaderSpan], spans: &ResponseSpans) -> Head
     }
 }
 
-/// Parses the head at the start of at most 8,192 bytes.
+/// Parses the head of an HTTP answer at the start of `bytes`, at most 8,192, and returns what it
+/// says if it is whole, or `More` if it is not whole yet. It is `Bad` if it breaks the form of a
+/// head, has a status other than 200 and 404, or is without exactly one `Content-Length` of at most
+/// 65,536. `fields` must be room for `ROOM` (2,731) fields, and is overwritten.
 ///
 /// Source: docs/FOLLOWING.md, "How it ends".
 pub fn head_of(bytes: &[u8], fields: &mut [HeaderSpan]) -> Head

@@ -10,8 +10,9 @@ use program_ends::number_in;
 /// The most bytes of a body.
 const MOST_BODY: u64 = 65_536;
 
-/// Returns the length of the body in bytes, if exactly one `Content-Length` states it as a decimal
-/// number of at most 65,536.
+/// Returns the length of the body in bytes, or `None` if the head does not state it. Exactly one
+/// `Content-Length` must state it, as a decimal number of at most 65,536. `fields` are the fields
+/// of the head, as ranges of `buf`.
 ///
 /// Source: docs/DECISIONS.md, "Following".
 pub fn length_in(buf: &[u8], fields: &[HeaderSpan]) -> Option<u64>

@@ -13,7 +13,7 @@ pub trait Network {
     /// and left the network as the last.
     ghost dials: { Self → ℕ → Self.Dialer → Self → Type 0 };
 
-    /// Returns a dialer of that port, which has given no link yet.
+    /// Returns a dialer of the port of this machine, which has given no link yet.
     fn dialer(&mut self, port: u16) -> Self::Dialer
         ensures dials { dials self.old port result self.new }
         ensures none_given { (Self.Dialer.state result).given ≡ 0 }
@@ -27,7 +27,7 @@ pub struct HostNetwork<R> {
 }
 
 impl<R> HostNetwork<R> {
-    /// Returns the network whose dialers use `net`.
+    /// Returns the network of the system, whose dialers use the system calls of `net`.
     pub fn new(net: R) -> Self {
         HostNetwork { net }
     }

@@ -27,7 +27,8 @@ pub enum Miss {
     OutOfMemory,
 }
 
-/// Reads at least one and at most `room` bytes into the start of the buffer.
+/// Reads at least one and at most `room` bytes of the link into the start of the buffer, and
+/// returns how many. Errs if the link failed, or ended without a byte.
 fn read_up_to<L: Peer>(link: &mut L, buffer: &mut [u8], room: usize) -> Result<usize, Failed>
     requires some { 1 ≤ room }
     requires within { room ≤ length buffer.old }
@@ -47,7 +48,9 @@ fn read_up_to<L: Peer>(link: &mut L, buffer: &mut [u8], room: usize) -> Result<u
     Ok(count)
 }
 
-/// Reads at least one and at most `most` bytes, by way of the buffer, and appends them to `bytes`.
+/// Reads at least one and at most `most` bytes of the link, by way of the buffer, and appends them
+/// to `bytes`. Errs with `Failed` if the link failed or ended, or with `OutOfMemory`, and then
+/// nothing is appended.
 fn read_more<L: Peer>(
     link: &mut L,
     buffer: &mut [u8],
@@ -74,7 +77,10 @@ fn read_more<L: Peer>(
     Ok(())
 }
 
-/// Parses the head at the start of `bytes` with `waiting` after them.
+/// Returns what the bytes in `bytes` and after them those in `waiting`, at most 8,192 in all, say
+/// as the start of an answer: a whole head, a bad one, or one that is not yet whole. Nothing is
+/// read: `waiting` are bytes that the link has received and not yet handed out. `fields` is room
+/// for `ROOM` (2,731) fields of a head, and is overwritten.
 fn look_ahead(bytes: &Text, waiting: &[u8], fields: &mut [HeaderSpan]) -> Result<Head, Oom>
     requires short { length bytes.now + length waiting.now ≤ 8192 }
     requires none { HasNoResponse bytes.now }
@@ -87,7 +93,10 @@ fn look_ahead(bytes: &Text, waiting: &[u8], fields: &mut [HeaderSpan]) -> Result
     Ok(head_of(both.as_slice(), fields))
 }
 
-/// Reads one byte of a head, and returns the head if it ends with that byte.
+/// Reads one byte of the link, appends it to `bytes`, the head so far, and returns what the head
+/// says if it is whole with that byte, else `None`. Errs with `Bad` if the byte makes the head bad,
+/// with `Failed` if the link failed or ended before the byte, or with `OutOfMemory`. `fields` is
+/// room for `ROOM` (2,731) fields of a head, and `buffer` for at least one byte.
 fn read_byte<L: Peer>(
     link: &mut L,
     fields: &mut [HeaderSpan],
@@ -113,12 +122,16 @@ fn read_byte<L: Peer>(
     }
 }
 
-/// Reads what waits of a head and nothing after it, or one byte if nothing waits. If what waits
-/// makes the head bad, `alone` is set: from there on each byte is read by itself, so that none is
-/// read after the one that decides it.
+/// Appends to `bytes`, the head so far, what the link has received of the head and nothing after
+/// it, or one byte that it reads if nothing was received or `alone` is set, and returns what the
+/// head says if it is whole then, else `None`; errs with `Bad` if the head is bad then, with
+/// `Failed` if the link failed or ended, or with `OutOfMemory`. If what was received would make the
+/// head bad, it sets `alone`, so that from there on each byte is read by itself and none after the
+/// one that decides it. `fields` is room for `ROOM` (2,731) fields of a head, and `buffer` for the
+/// bytes that are read at once.
 ///
 /// Source: docs/DECISIONS.md, "Following".
-fn read_on<L: Peer>(
+fn read_head_part<L: Peer>(
     link: &mut L,
     fields: &mut [HeaderSpan],
     buffer: &mut [u8],
@@ -159,7 +172,10 @@ fn read_on<L: Peer>(
     }
 }
 
-/// Reads a head as it arrives, and nothing after it.
+/// Reads a head into `bytes`, which are empty before, as it arrives and nothing after it, and
+/// returns what it says. Errs with `Bad` if it is bad or not whole within 8,192 bytes, with
+/// `Failed` if the link failed or ended, or with `OutOfMemory`. `fields` is room for `ROOM` (2,731)
+/// fields of a head.
 fn read_head<L: Peer>(
     link: &mut L,
     fields: &mut [HeaderSpan],
@@ -176,7 +192,7 @@ fn read_head<L: Peer>(
     let mut buffer = [0u8; AT_ONCE];
     let mut alone = false;
     while bytes.len() < MOST_BYTES {
-        match read_on(link, fields, &mut buffer, bytes, &mut alone) {
+        match read_head_part(link, fields, &mut buffer, bytes, &mut alone) {
             Ok(None) => {}
             Ok(Some(shape)) => return Ok(shape),
             Err(miss) => return Err(miss),
@@ -185,7 +201,8 @@ fn read_head<L: Peer>(
     Err(Miss::Bad)
 }
 
-/// Reads until there are `wanted` bytes.
+/// Appends bytes of the link to `bytes`, which have the head of an answer, until there are `wanted`
+/// bytes in all. Errs with `Failed` if the link failed or ended before, or with `OutOfMemory`.
 fn read_body<L: Peer>(link: &mut L, bytes: &mut Text, wanted: usize) -> Result<(), Miss>
     requires { length bytes.old ≤ wanted }
     ensures read { ReadsBody (L.state link.old).input.left (L.state link.new).input.left
@@ -203,8 +220,8 @@ fn read_body<L: Peer>(link: &mut L, bytes: &mut Text, wanted: usize) -> Result<(
     Ok(())
 }
 
-/// Reads one answer into `bytes`, which are empty before, and returns what its head says. `fields`
-/// is room for the fields of the head.
+/// Reads one answer, head and body, into `bytes`, which are empty before, and returns what its head
+/// says. `fields` is room for `ROOM` (2,731) fields of a head.
 ///
 /// # Errors
 ///

@@ -22,7 +22,8 @@ pub enum Stop {
     OutOfMemory,
 }
 
-// Why a run stops with a link that was left so, or `None` if it goes on.
+/// Returns why a run asks no more after it has left a link in the way `end`. `None` if it goes on
+/// with another link, which it does if the link failed or an answer closed it.
 fn stop_with(end: LinkEnd) -> Option<Stop>
     ensures { result ≡ stop_with end }
 {
@@ -35,8 +36,9 @@ fn stop_with(end: LinkEnd) -> Option<Stop>
     }
 }
 
-/// Asks for the products after those that the follower has, in at most `rounds` rounds. A round is
-/// a dial that failed, or a question on a link.
+/// Asks for the products after those that the follower has, adds them to it, and returns why it
+/// stopped, which is after at most `rounds` rounds. A round is a dial that failed, or a question on
+/// a link. All links are returned to the dialer.
 ///
 /// Source: docs/FOLLOWING.md, "A round".
 pub fn follow_rounds<D: Dialer>(

@@ -10,7 +10,7 @@ ghost use Rattle.follow_links.specs.Runs.{Follows, FollowsOver, IsFollowed, IsTo
 
 use crate::network::Network;
 use crate::rounds::{Stop, follow_rounds};
-use crate::telling::{bad_line, report, tell};
+use crate::telling::{bad_line, report, write_run_text};
 use crate::words::{Asked, asked_of};
 use byte_streams::Sink;
 use desk_links::Dialer;
@@ -32,8 +32,12 @@ const ROUNDS_SPENT: u8 = 15;
 
 const BAD_ANSWER: u8 = 16;
 
-/// Returns what is written if a run stopped so: what the follower shows, or the line of the fault.
-fn text_at(alloc: Global, follower: &Follower, minute: Minute, stop: Stop) -> Result<Text, Oom>
+/// Returns what the program writes if a run ended for the reason `stop`: the follower's place,
+/// which is the number of its products, and the rows that these leave live at `minute`, with the
+/// line `fault RoundsSpent` after them if the rounds are spent. For a bad answer it is the line
+/// `fault BadAnswer PLACE` alone. Errs if `stop` is `OutOfMemory`, or if memory runs out for the
+/// text.
+fn stop_text(alloc: Global, follower: &Follower, minute: Minute, stop: Stop) -> Result<Text, Oom>
     ensures { IfOk result (λ text. text ≡ text_of stop (place_of follower.now) minute
         (shown_at minute (rows_of follower.now.products))) }
 {
@@ -46,7 +50,8 @@ fn text_at(alloc: Global, follower: &Follower, minute: Minute, stop: Stop) -> Re
 }
 
 impl Stop {
-    /// Returns the exit status of a run that stopped so.
+    /// Returns the exit status of a run that ended for this reason: 0 if the office has no further
+    /// product, 15 for spent rounds, 16 for a bad answer, and 12 if memory ran out.
     fn status(self) -> u8
         ensures { result ≡ status_of self }
     {
@@ -59,7 +64,9 @@ impl Stop {
     }
 }
 
-/// Writes how a run stopped, and returns the exit status.
+/// Writes the text with which a run ends for the reason `stop`, and returns the exit status: 8 if a
+/// write failed, 12 if memory ran out, else that of `stop`. If the text has rows, they are those
+/// that the follower's products leave live at `minute`.
 fn write_stop<K: Sink>(
     alloc: Global,
     follower: &Follower,
@@ -71,13 +78,16 @@ fn write_stop<K: Sink>(
         (shown_at minute (rows_of follower.now.products))
         (K.outflow output.old) (K.outflow output.new) result }
 {
-    match text_at(alloc, follower, minute, stop) {
-        Ok(text) => tell(output, text.as_slice(), stop.status()),
-        Err(_) => tell(output, b"fault OutOfMemory\n", OUT_OF_MEMORY),
+    match stop_text(alloc, follower, minute, stop) {
+        Ok(text) => write_run_text(output, text.as_slice(), stop.status()),
+        Err(_) => write_run_text(output, b"fault OutOfMemory\n", OUT_OF_MEMORY),
     }
 }
 
-/// Follows an office as asked, and returns the exit status.
+/// Asks the server for the products of an office, in at most `asked.rounds` rounds, writes the rows
+/// that they leave live at `asked.minute`, and returns the exit status. It is 0 if there is no
+/// further product, 8 if a write failed, 12 if memory ran out, 15 if the rounds are spent, and 16
+/// for a bad answer. All links are returned to the dialer.
 fn follow<D: Dialer, K: Sink>(alloc: Global, asked: &Asked, dialer: &mut D, output: &mut K) -> u8
     requires none_out { (D.state dialer.old).given ≡ (D.state dialer.old).returned }
     requires few { (D.state dialer.old).returned + asked.now.rounds < 2 ^ 32 }
@@ -90,8 +100,9 @@ fn follow<D: Dialer, K: Sink>(alloc: Global, asked: &Asked, dialer: &mut D, outp
     write_stop(alloc, &follower, asked.minute, stop, output)
 }
 
-/// Runs the follower over a dialer, as the arguments `OFFICE CLASS STAMP PORT ROUNDS` ask, and
-/// returns the exit status. PORT is only parsed: the dialer has its own port. All links that the
+/// Runs the follower over a dialer, as the arguments `OFFICE CLASS STAMP PORT ROUNDS` in `words`
+/// ask, and returns the exit status; for other arguments it writes `fault Usage` and returns 2, or
+/// 8 if that write failed. PORT is only parsed, as the dialer has its own port. All links that the
 /// dialer gave are returned to it.
 ///
 /// Source: docs/FOLLOWING.md, "How it ends".
@@ -108,13 +119,14 @@ pub fn follow_run<D: Dialer, K: Sink>(
         (K.outflow output.old) (K.outflow output.new) result }
 {
     let Some(asked) = asked_of(words) else {
-        return tell(output, b"fault Usage\n", USAGE_STATUS);
+        return write_run_text(output, b"fault Usage\n", USAGE_STATUS);
     };
     follow(alloc, &asked, dialer, output)
 }
 
-/// Runs the follower over a dialer of the port that the arguments name. Other arguments make no
-/// dialer.
+/// Runs the follower over a dialer of the port that the arguments `words` name, and returns the
+/// exit status. For arguments that are not `OFFICE CLASS STAMP PORT ROUNDS` it makes no dialer,
+/// writes `fault Usage` and returns 2, or 8 if that write failed.
 fn follow_words<N: Network, K: Sink>(
     alloc: Global,
     words: &List<Text>,
@@ -125,14 +137,16 @@ fn follow_words<N: Network, K: Sink>(
         (K.outflow output.old) (K.outflow output.new) result }
 {
     let Some(asked) = asked_of(words) else {
-        return tell(output, b"fault Usage\n", USAGE_STATUS);
+        return write_run_text(output, b"fault Usage\n", USAGE_STATUS);
     };
     let mut dialer = network.dialer(asked.port);
     follow(alloc, &asked, &mut dialer, output)
 }
 
-/// Runs the follower with the arguments after the program's name. If memory ran out for them, the
-/// status is 12, and nothing is dialed or written.
+/// Runs the follower with the arguments after the program's name over a dialer of the port that
+/// they name, and returns the exit status. For arguments that are not `OFFICE CLASS STAMP PORT
+/// ROUNDS` it makes no dialer, writes `fault Usage` and returns 2, or 8 if that write failed. If
+/// memory ran out for the arguments, the status is 12, and nothing is dialed or written.
 fn run_words<S, K: Sink, M, N: Network>(outside: &mut Outside<S, K, M>, network: &mut N) -> u8
     ensures ran { Starts outside.old.words 1
         ((network.new ≡ network.old)
@@ -148,9 +162,9 @@ fn run_words<S, K: Sink, M, N: Network>(outside: &mut Outside<S, K, M>, network:
     }
 }
 
-/// Runs the whole program: parses the command line, follows over a dialer of the port that it
-/// names, writes to the output, and returns the exit status. The input is not read; for a usage
-/// error the usage goes to the messages.
+/// Runs the whole program: parses the arguments `OFFICE CLASS STAMP PORT ROUNDS`, follows over a
+/// dialer of PORT, writes to the output, and returns the exit status. The input is not read. If the
+/// status is 2, which is that of other arguments, the usage goes to the messages.
 ///
 /// Source: docs/FOLLOWING.md, "How it ends".
 pub fn run_program<S, K: Sink, M: Sink, N: Network>(

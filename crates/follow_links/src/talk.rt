@@ -29,7 +29,7 @@ pub enum LinkEnd {
     OutOfMemory,
 }
 
-/// Returns how a link is left if no whole answer was read.
+/// Returns how a link is left if no whole answer was read from it for the reason `miss`.
 fn end_of(miss: Miss) -> LinkEnd
     ensures { result ≡ end_of miss }
 {
@@ -48,14 +48,18 @@ const NO_PRODUCT: &[u8] = b"{\"no\":\"E14\",\"rule\":\"NoProduct\"}";
 /// The most products of an office.
 const MOST: u32 = 8192;
 
-/// Whether a body says that there is no further product.
+/// Whether `body`, that of a 404 answer, is exactly `{"no":"E14","rule":"NoProduct"}`, which says
+/// that there is no further product.
 fn is_end_answer(body: &[u8]) -> bool
     ensures { IsTrue result ↔ (body.now ≡ no_product) }
 {
     body == NO_PRODUCT
 }
 
-/// Takes the text of a whole answer, and returns whether the link closes after it.
+/// Adds the product in a whole answer to the follower, and returns whether the link closes after
+/// the answer. Errs with how the link is left: `Ended` for a 404 that says that there is no further
+/// product, `Bad` for another 404, for a body that is no product and for a follower that has 8,192
+/// products, or `OutOfMemory`. `bytes` are the whole answer, and `shape` is what its head says.
 fn take_answer(
     alloc: Global,
     follower: &mut Follower,
@@ -83,7 +87,9 @@ fn take_answer(
     }
 }
 
-/// Asks once and takes the answer. Returns whether the link closes after it.
+/// Asks on the link for the product after those that the follower has, adds it to the follower, and
+/// returns whether the link closes after the answer. Errs with how the link is left if no product
+/// was added. `fields` is room for `ROOM` (2,731) fields of a head.
 fn ask_once<L: Peer>(
     alloc: Global,
     link: &mut L,
@@ -109,7 +115,10 @@ fn ask_once<L: Peer>(
     }
 }
 
-/// Asks on a link until it is left. Each question takes one of the rounds that are left.
+/// Asks on a link for one product after another, adds them to the follower, and returns how the
+/// link is left: it stops when no round is left (`Spent`), when an answer closed the link
+/// (`Closed`), or when an ask gave no product. `left` is the number of rounds that are left, of
+/// which each question takes one. `fields` is room for `ROOM` (2,731) fields of a head.
 pub fn talk<L: Peer>(
     alloc: Global,
     link: &mut L,

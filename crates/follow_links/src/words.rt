@@ -2,7 +2,7 @@
 ghost use Rattle.std.specs.Prelude.{◌≡◌, ◌≤◌, IfSome};
 ghost use Rattle.follow_links.specs.Words.{asked_of};
 
-use hazard_types::{Class, List, Minute, Text, classes, find, read_stamp};
+use hazard_types::{Class, List, Minute, Text, classes, find, parse_stamp};
 use program_ends::{count_in, office_of};
 
 /// What the arguments ask for.
@@ -18,7 +18,9 @@ pub struct Asked {
     pub rounds: u32,
 }
 
-/// Parses the arguments `OFFICE CLASS STAMP PORT ROUNDS`; `None` if they are others.
+/// Returns what the arguments `OFFICE CLASS STAMP PORT ROUNDS` ask for, or `None` if they are not
+/// five words of these forms: an office as `KLWX`, a class, the stamp of a minute, a port from 1 to
+/// 65,535, and a number of rounds from 1 to 100,000.
 #[tactic(auto, unfolding(crate::specs::Words::asked_of))]
 pub fn asked_of(words: &List<Text>) -> Option<Asked>
     ensures value { result ≡ asked_of words.now }
@@ -29,7 +31,7 @@ pub fn asked_of(words: &List<Text>) -> Option<Asked>
     };
     let office = office_of(office.as_slice())?;
     let class = find(&classes(), class.as_slice())?;
-    let minute = read_stamp(stamp.as_slice())?;
+    let minute = parse_stamp(stamp.as_slice())?;
     let port = count_in(port.as_slice(), 65_535)?;
     let rounds = count_in(rounds.as_slice(), 100_000)?;
     Some(Asked {

@@ -9,8 +9,11 @@ ghost use Rattle.office_core.specs.Agreement.{ReadsAsTheBoard};
 ghost use Rattle.office_core.specs.Histories.{Entered, IsLegal};
 ghost use Rattle.office_core.specs.State.{State};
 
-/// A reader of the texts of a legal history alone finds lawful lives, numbers without gaps, and the
-/// rows of the board, if the settings have their form and take any zone in training alone.
+/// A history is legal if the office accepts the request of each entry after the entries before it,
+/// and the entry's record fits into the journal. A reader who has only the texts of a legal history
+/// finds in them lawful lives of the events, numbers without gaps, and the same rows as the
+/// office's board. The settings must have their form, and may allow any zone (`any_zone`) only if
+/// `class` is one of training.
 #[tactic(auto, using(crate::proofs::Legal::legal_reads))]
 pub fn legal_histories_read_as_their_boards()
     ensures { (fits : List Entered → Entered → Bool) (settings : Settings) (class : Class)
@@ -18,7 +21,9 @@ pub fn legal_histories_read_as_their_boards()
         → IsLegal fits settings class history s → ReadsAsTheBoard s }
 {}
 
-/// The first texts of a legal history, however many, are all texts after a prefix of it.
+/// The first texts of a legal history (one whose requests the office accepts one after another),
+/// however many are taken, are exactly all texts of some prefix of that history, which is legal
+/// too.
 #[tactic(auto, using(crate::proofs::Cut::at_front))]
 pub fn first_texts_end_at_a_front()
     ensures { (fits : List Entered → Entered → Bool) (settings : Settings) (class : Class)
@@ -28,9 +33,9 @@ pub fn first_texts_end_at_a_front()
 {}
 
 /// An office goes on by a legal history and publishes its texts one after another. After any list
-/// of events (texts, questions, and answers that are late, lost or repeated) a follower shows the
-/// office's board after a prefix of the history: that of its first products, as many as the
-/// follower took.
+/// of events (texts, questions, and answers that are late, lost or repeated) a follower shows at
+/// each minute what the office's board shows after a prefix of the history. That prefix has as many
+/// products as the follower has taken, and its texts are those that the follower took.
 ///
 /// Source: docs/FOLLOWING.md, "Nothing is lost".
 pub fn followers_show_the_board()

@@ -15,7 +15,7 @@ use Rattle.event_life.specs.Products.{by_key, row_at, has_rows}
 use Rattle.event_life.proofs.FreeOrder.{told_by_keys}
 use Rattle.event_life.proofs.LivesLemmas.{find-passes}
 use Rattle.event_life.proofs.Puts.{at_key, at_key-parts}
-use Rattle.hazard_board.specs.Spots.{by_year, by_spot, is_spot, has_spot, spots_of, first_found, rows_on, rows_of_event, first_of, has_same, has_same_if, AreSpots}
+use Rattle.hazard_board.specs.Spots.{by_year, by_spot, is_spot, has_spot, spots_of, first_found, rows_on, rows_of_event, first_of, has_opened_period, has_same_if, AreSpots}
 use Rattle.hazard_board.specs.declared.spots.Spot.{Spot}
 use Rattle.hazard_board.proofs.Runs.{all_that_pass}
 use Rattle.hazard_board.proofs.SpotLemmas.{by_year_total, spot_parts, has_cons}
@@ -155,7 +155,7 @@ none_first : (o : Option Row) (behind : List Row) → is_some o ≡ false → fi
 none_first None behind h = refl
 none_first (Some r) behind h = cc
 
-any_first : (p : Period) (t : ℕ) (o : Option Row) (behind : List Row) → list_any (has_same p t) (first_found o behind) ≡ (has_same_if p t o || list_any (has_same p t) behind)
+any_first : (p : Period) (t : ℕ) (o : Option Row) (behind : List Row) → list_any (has_opened_period p t) (first_found o behind) ≡ (has_same_if p t o || list_any (has_opened_period p t) behind)
 any_first p t None behind = refl
 any_first p t (Some r) behind = refl
 
@@ -173,5 +173,5 @@ module _ (rows : List Row) (run : List Spot) (i : ℕ) (s : Spot) (o : Option Ro
   pub first_later : is_some o ≡ false → first_of (rows_on rows (drop i run)) ≡ first_of (rows_on rows (drop (i + 1) run))
   first_later h = ap first_of (cut ∙ none_first o (rows_on rows (drop (i + 1) run)) h)
 
-  pub same_next : (p : Period) (t : ℕ) → list_any (has_same p t) (rows_on rows (drop i run)) ≡ (has_same_if p t o || list_any (has_same p t) (rows_on rows (drop (i + 1) run)))
-  same_next p t = ap (list_any (has_same p t)) cut ∙ any_first p t o (rows_on rows (drop (i + 1) run))
+  pub same_next : (p : Period) (t : ℕ) → list_any (has_opened_period p t) (rows_on rows (drop i run)) ≡ (has_same_if p t o || list_any (has_opened_period p t) (rows_on rows (drop (i + 1) run)))
+  same_next p t = ap (list_any (has_opened_period p t)) cut ∙ any_first p t o (rows_on rows (drop (i + 1) run))

@@ -17,7 +17,7 @@ use Rattle.hazard_types.specs.declared.period.End.TheVariants.{At, Ufn}
 use Rattle.hazard_types.proofs.Equality.{event_one, event_itself, hazard_one, hazard_itself}
 use Rattle.hazard_types.proofs.OrderLaws.{by_event_total}
 use Rattle.event_life.specs.Periods.{is_not_long_past, keeps_open}
-use Rattle.event_life.specs.Products.{is_open, later_event, going_in}
+use Rattle.event_life.specs.Products.{is_open, later_event, latest_open_event}
 use Rattle.hazard_board.specs.Standing.{later, later_than, stands_for, latest_end, by_standing, end_in, of_hazard, of_number, last_open, AreStanding, AreStandingOf}
 use Rattle.hazard_board.specs.declared.standing.Standing.{Standing}
 use Rattle.hazard_board.proofs.OpenLemmas.{hazard_by_number}
@@ -332,7 +332,7 @@ module _ (rows : List Row) (standing : List Standing) (all : AreStanding rows st
         let q = and_parts (same_hazard e.hazard h) (e.etn == n) p.0 in
         record { hazard = hazard_one e.hazard h q.0; etn = eqb-true e.etn n q.1 }
 
-    pub going_is : going_in rows h n t ≡ last_open t (of_number n (of_hazard h standing))
+    pub going_is : latest_open_event rows h n t ≡ last_open t (of_number n (of_hazard h standing))
     going_is =
         passing (λ (r : Row). r.event) (λ (r : Row). has_number event_of h n r.event && keeps_open t r) rows None
         ∙ top_alike h n by_rows by_list (λ e. row_held e ∙ sym (list_held e)) number_own

@@ -18,7 +18,7 @@ use Rattle.event_life.specs.Table.{first_of, on_new, on_life, on_nothing, prints
 use Rattle.event_life.proofs.LawfulLemmas.{HaveNoBreach, lawful_of-without_breach}
 use Rattle.event_life.proofs.LivesLemmas.{none_from_test}
 use Rattle.hazard_board.specs.Held.{touches, rows_left, around_freed, breach_but_held, HaveNoneButHeld}
-use Rattle.hazard_board.specs.Taken.{put_if, row_left, rows_taken}
+use Rattle.hazard_board.specs.Taken.{add_row_if_some, row_left, rows_taken}
 use Rattle.hazard_board.proofs.Alone.{none_first, none_both, upgraded, lawful_left}
 
 none_behind : (routine second : Bool) (o : Option Breach) → routine ≡ false → cond routine None (cond second (Some Twice) o) ≡ None → o ≡ None
@@ -32,12 +32,12 @@ freed_left rows t earlier line own h =
     lawful_left rows t line (around_freed rows t line) own (none_behind (is_routine line.action) (is_second earlier line) (breach_of_line (life_at rows line) line t (around_freed rows t line)) own h)
 
 taken_step : (rows : List Row) (t : ℕ) (earlier : List Line) (line : Line) (lines : List Line) (after : List Row) (routine : Bool) → is_routine line.action ≡ routine → breach_but_held rows t earlier line ≡ None →
-    ((more : List Row) → fold (λ (a : List Row) (l : Line). put_if (row_left rows t l) a) more lines ≡ put_all rows t (filter touches lines) more) →
-    fold (λ (a : List Row) (l : Line). put_if (row_left rows t l) a) after (line ∷ lines) ≡ put_all rows t (filter touches (line ∷ lines)) after
+    ((more : List Row) → fold (λ (a : List Row) (l : Line). add_row_if_some (row_left rows t l) a) more lines ≡ put_all rows t (filter touches lines) more) →
+    fold (λ (a : List Row) (l : Line). add_row_if_some (row_left rows t l) a) after (line ∷ lines) ≡ put_all rows t (filter touches (line ∷ lines)) after
 taken_step rows t earlier line lines after true own h more = rw own (more after)
 taken_step rows t earlier line lines after false own h more = rw (freed_left rows t earlier line own h, own) (more (put (row_after rows t line) after))
 
-taken_each : (rows : List Row) (t : ℕ) (earlier lines : List Line) → HaveNoneButHeld rows t earlier lines → (after : List Row) → fold (λ (a : List Row) (l : Line). put_if (row_left rows t l) a) after lines ≡ put_all rows t (filter touches lines) after
+taken_each : (rows : List Row) (t : ℕ) (earlier lines : List Line) → HaveNoneButHeld rows t earlier lines → (after : List Row) → fold (λ (a : List Row) (l : Line). add_row_if_some (row_left rows t l) a) after lines ≡ put_all rows t (filter touches lines) after
 taken_each rows t earlier [] h after = refl
 taken_each rows t earlier (line ∷ lines) h after =
     taken_step rows t earlier line lines after (is_routine line.action) refl h.0 (taken_each rows t (earlier ++ line ∷ []) lines h.1)

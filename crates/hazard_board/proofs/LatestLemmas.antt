@@ -20,12 +20,12 @@ use Rattle.event_life.specs.Products.{by_key, placed, put, row_at, life_at, life
 use Rattle.event_life.specs.Reordered.{are_lawful}
 use Rattle.event_life.specs.declared.life.Breach.TheVariants.{ZeroBegin, BegunMoved, NoLength, PeriodMoved, PeriodSame, NotLive, TooEarly, TooLate, NoHigher}
 use Rattle.event_life.specs.Periods.{ends_after, same_end}
-use Rattle.event_life.specs.Table.{first_of, on_life, on_continuing, on_ending, continued_period, stays, prints_past, prints_later, prints_begin_as_due, moves_begin, cancels_late, expires_early, expires_late, breach_of_line, step}
+use Rattle.event_life.specs.Table.{first_of, on_life, on_continuing, on_ending, continued_period, keeps_period, prints_begun, prints_to_come, prints_begin_as_due, moves_begin, cancels_late, expires_early, expires_late, breach_of_line, step}
 use Rattle.event_life.proofs.Keys.{key_exact}
 use Rattle.event_life.proofs.Puts.{at_key}
 use Rattle.hazard_board.specs.Board.{openings}
 use Rattle.hazard_board.specs.Standing.{later_than, stands_for, latest_end, end_in, touched, newly}
-use Rattle.hazard_board.specs.Taken.{wanted, row_if, row_left, put_if, taken_in_turn}
+use Rattle.hazard_board.specs.Taken.{wanted, row_if, row_left, add_row_if_some, taken_in_turn}
 use Rattle.hazard_board.specs.declared.standing.Standing.{Standing}
 use Rattle.hazard_board.proofs.Alone.{none_first, meets_life}
 use Rattle.hazard_board.proofs.Among.{of_all, found_among}
@@ -56,11 +56,11 @@ either_false : (a b : Bool) → (a || b) ≡ false → (a ≡ false) × (b ≡ f
 either_false true b h = cc
 either_false false b h = (refl, h)
 
-taken_step : (r : Result Life Breach) (t : ℕ) (e : Event) (rows : List Row) (line : Line) → same_event line.event e ≡ false → latest_end (put_if (row_if line r) rows) e ≡ latest_end rows e
+taken_step : (r : Result Life Breach) (t : ℕ) (e : Event) (rows : List Row) (line : Line) → same_event line.event e ≡ false → latest_end (add_row_if_some (row_if line r) rows) e ≡ latest_end rows e
 taken_step (Ok life) t e rows line other = latest_put e (row_of line life) rows None other
 taken_step (Err breach) t e rows line other = refl
 
-one_taken : (routine same : Bool) (t : ℕ) (e : Event) (rows : List Row) (line : Line) → is_routine line.action ≡ routine → same_event line.event e ≡ same → (not routine && same) ≡ false → latest_end (put_if (row_left rows t line) rows) e ≡ latest_end rows e
+one_taken : (routine same : Bool) (t : ℕ) (e : Event) (rows : List Row) (line : Line) → is_routine line.action ≡ routine → same_event line.event e ≡ same → (not routine && same) ≡ false → latest_end (add_row_if_some (row_left rows t line) rows) e ≡ latest_end rows e
 one_taken true same t e rows line own is other = rw own refl
 one_taken false true t e rows line own is other = cc
 one_taken false false t e rows line own is other = rw own (taken_step (step (life_at rows line) line t (wanted line.action)) t e rows line is)
@@ -70,7 +70,7 @@ pub latest_untouched : (t : ℕ) (e : Event) (rows : List Row) (lines : List Lin
 latest_untouched t e rows [] h = refl
 latest_untouched t e rows (line ∷ lines) h =
     let p = either_false (not (is_routine line.action) && same_event line.event e) (touched lines e) h in
-    latest_untouched t e (put_if (row_left rows t line) rows) lines p.1
+    latest_untouched t e (add_row_if_some (row_left rows t line) rows) lines p.1
     ∙ one_taken (is_routine line.action) (same_event line.event e) t e rows line refl refl p.0
 
 -- lawful lines of events that are not standing open them
@@ -110,7 +110,7 @@ first_false false a x more h = refl
 
 continuing_live : (life : Life) (line : Line) (t : ℕ) (last : Bool × Breach) → first_of (on_continuing life line t last) ≡ None → life.ended ≡ false
 continuing_live life line t last h = first_false life.ended (not (ends_after life.period.end t)) NotLive
-    ((prints_past line.begin t, ZeroBegin) ∷ (prints_later line.begin t && nat_le life.period.begin t, BegunMoved)
+    ((prints_begun line.begin t, ZeroBegin) ∷ (prints_to_come line.begin t && nat_le life.period.begin t, BegunMoved)
     ∷ (not (ends_after line.end (continued_period life line t).begin && ends_after line.end t), NoLength) ∷ last ∷ []) h
 
 ending_live : (life : Life) (line : Line) (t : ℕ) (more : List (Bool × Breach)) → first_of (on_ending life line t more) ≡ None → life.ended ≡ false
@@ -122,9 +122,9 @@ goes_on_live : (a : Action) (life : Life) (line : Line) (t : ℕ) (around : Arou
 goes_on_live New life line t around own never h = cc
 goes_on_live Exa life line t around own never h = cc
 goes_on_live Exb life line t around own never h = cc
-goes_on_live Con life line t around own never h = continuing_live life line t (not (stays life line t), PeriodMoved) h
-goes_on_live Cor life line t around own never h = continuing_live life line t (not (stays life line t), PeriodMoved) h
-goes_on_live Ext life line t around own never h = continuing_live life line t (stays life line t, PeriodSame) h
+goes_on_live Con life line t around own never h = continuing_live life line t (not (keeps_period life line t), PeriodMoved) h
+goes_on_live Cor life line t around own never h = continuing_live life line t (not (keeps_period life line t), PeriodMoved) h
+goes_on_live Ext life line t around own never h = continuing_live life line t (keeps_period life line t, PeriodSame) h
 goes_on_live Can life line t around own never h = ending_live life line t ((cancels_late life.period.end t, TooLate) ∷ []) h
 goes_on_live Exp life line t around own never h = ending_live life line t ((expires_early life.period.end t, TooEarly) ∷ (expires_late life.period.end t, TooLate) ∷ []) h
 goes_on_live Upg life line t around own never h = ending_live life line t ((not (ends_after life.period.end t), TooLate) ∷ (not around.higher, NoHigher) ∷ []) h

@@ -13,14 +13,14 @@ use Rattle.event_life.proofs.Puts.{put-sorted}
 use Rattle.hazard_board.specs.Board.{slice_of}
 use Rattle.hazard_board.specs.ByZone.{lines_of}
 use Rattle.hazard_board.specs.NewClashes.{is_same, unless_same, clashes_among, clashes_if, left_clashes, left_if, left_by, lefts, put_lefts, is_new_clash}
-use Rattle.hazard_board.specs.Taken.{row_left, put_if, rows_taken}
+use Rattle.hazard_board.specs.Taken.{row_left, add_row_if_some, rows_taken}
 use Rattle.hazard_board.specs.declared.lines.Left.{Left}
 use Rattle.hazard_board.proofs.LiveLemmas.{alike_put}
 use Rattle.hazard_board.proofs.SliceLemmas.{taken_in, taken_slice}
 
 -- put in turn
 
-one_put : (held o : Option Row) (rows : List Row) → put_lefts rows (option_to_list (left_if held o)) ≡ put_if o rows
+one_put : (held o : Option Row) (rows : List Row) → put_lefts rows (option_to_list (left_if held o)) ≡ add_row_if_some o rows
 one_put held None rows = refl
 one_put held (Some row) rows = refl
 

@@ -22,10 +22,10 @@ use Rattle.hazard_board.specs.Board.{slice_of}
 use Rattle.hazard_board.specs.Clashes.{clash, first_clash, may_clash}
 use Rattle.hazard_board.specs.Live.{AreLive}
 use Rattle.hazard_board.specs.NewClashes.{clash_either, clashes_among, clashes_if, left_clashes, row_changed}
-use Rattle.hazard_board.specs.Taken.{row_left, put_if}
+use Rattle.hazard_board.specs.Taken.{row_left, add_row_if_some}
 use Rattle.hazard_board.proofs.QuietRows.{clash_live, first_among}
 use Rattle.hazard_board.proofs.SliceLemmas.{taken_in}
-use Rattle.hazard_board.proofs.Turns.{put_if-sorted}
+use Rattle.hazard_board.proofs.Turns.{add_row_if_some-sorted}
 
 -- a filter behind a filter that lets all pass that it lets pass
 
@@ -139,7 +139,7 @@ module _ (p : Row → Bool) where
 pub alike_put : (t : ℕ) (row : Row) (xs ys : List Row) → IsStrictlySortedBy by_key xs → IsStrictlySortedBy by_key ys → shown_at t xs ≡ shown_at t ys → shown_at t (put row xs) ≡ shown_at t (put row ys)
 alike_put t row xs ys up also alike = filtered_put (is_live t) row xs ys up also alike
 
-alike_put_if : (t : ℕ) (o : Option Row) (xs ys : List Row) → IsStrictlySortedBy by_key xs → IsStrictlySortedBy by_key ys → shown_at t xs ≡ shown_at t ys → shown_at t (put_if o xs) ≡ shown_at t (put_if o ys)
+alike_put_if : (t : ℕ) (o : Option Row) (xs ys : List Row) → IsStrictlySortedBy by_key xs → IsStrictlySortedBy by_key ys → shown_at t xs ≡ shown_at t ys → shown_at t (add_row_if_some o xs) ≡ shown_at t (add_row_if_some o ys)
 alike_put_if t None xs ys up also alike = alike
 alike_put_if t (Some row) xs ys up also alike = alike_put t row xs ys up also alike
 
@@ -148,7 +148,7 @@ pub alike_taken : (before : List Row) (t : ℕ) (lines : List Line) (xs ys : Lis
 alike_taken before t [] xs ys up also alike = alike
 alike_taken before t (line ∷ lines) xs ys up also alike =
     let left = row_left before t line in
-    alike_taken before t lines (put_if left xs) (put_if left ys) (put_if-sorted left xs up) (put_if-sorted left ys also) (alike_put_if t left xs ys up also alike)
+    alike_taken before t lines (add_row_if_some left xs) (add_row_if_some left ys) (add_row_if_some-sorted left xs up) (add_row_if_some-sorted left ys also) (alike_put_if t left xs ys up also alike)
 
 pub live_put : (since : Option ℕ) (row : Row) (rows live : List Row) → IsStrictlySortedBy by_key rows → IsStrictlySortedBy by_key live → AreLive since rows live → AreLive since (put row rows) (put row live)
 live_put None row rows live up also alike = alike

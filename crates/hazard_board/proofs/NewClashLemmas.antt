@@ -16,7 +16,7 @@ use Rattle.hazard_board.specs.Clashes.{clash, first_clash}
 use Rattle.hazard_board.specs.Consistent.{collide, EachToLater}
 use Rattle.hazard_board.specs.NewClashes.{is_same, stands, clash_either, clashes_among, new_clash, clashes_if, left_clashes, unless_same}
 use Rattle.hazard_board.specs.Board.{slice_of}
-use Rattle.hazard_board.specs.Taken.{row_left, put_if}
+use Rattle.hazard_board.specs.Taken.{row_left, add_row_if_some}
 use Rattle.hazard_board.proofs.Among.{IsAmong, of_all, all_of, found_at, none_of_them, found_among, of_each, each_of}
 use Rattle.hazard_board.proofs.QuietRows.{clash_collides}
 use Rattle.hazard_board.proofs.SliceLemmas.{either_false, taken_in}
@@ -97,7 +97,7 @@ module _ (t : ℕ) (rows target : List Row) where
   quiet_by true held row is here h = inl (here refl)
   quiet_by false held row is here h = inr (rw is at h)
 
-  put_quiet : IsStrictlySortedBy by_key rows → (e : Event) (z : Place) (o : Option Row) (after : List Row) → clashes_if t target (unless_same (row_at rows e z) o) ≡ false → AllByRecursion IsQuiet after → AllByRecursion IsQuiet (put_if o after)
+  put_quiet : IsStrictlySortedBy by_key rows → (e : Event) (z : Place) (o : Option Row) (after : List Row) → clashes_if t target (unless_same (row_at rows e z) o) ≡ false → AllByRecursion IsQuiet after → AllByRecursion IsQuiet (add_row_if_some o after)
   put_quiet up e z None after h all = all
   put_quiet up e z (Some row) after h all = put-all IsQuiet row after (quiet_by (is_same (row_at rows e z) row) (row_at rows e z) row refl (stands_there rows up e z row) h) all
 
@@ -105,7 +105,7 @@ module _ (t : ℕ) (rows target : List Row) where
   all_quiet up [] after h all = all
   all_quiet up (line ∷ lines) after h all =
       let p = either_false (left_clashes t rows target line) (list_any (left_clashes t rows target) lines) h in
-      all_quiet up lines (put_if (row_left rows t line) after) p.1 (put_quiet up line.event line.zone (row_left rows t line) after p.0 all)
+      all_quiet up lines (add_row_if_some (row_left rows t line) after) p.1 (put_quiet up line.event line.zone (row_left rows t line) after p.0 all)
 
   stand_quiet : IsStrictlySortedBy by_key rows → (r : Row) → IsAmong r rows → IsQuiet r
   stand_quiet up r h = inl (ap (λ (o : Option Row). is_same o r) (found_at rows r up h) ∙ row_itself r)

@@ -16,7 +16,7 @@ use Rattle.hazard_types.proofs.Equality.{event_one, hazard_one, hazard_itself}
 use Rattle.event_life.specs.Bounds.{IsBefore}
 use Rattle.event_life.specs.Periods.{is_not_long_past, keeps_open}
 use Rattle.event_life.specs.Printed.{IsOneEvent, HasOneOpen}
-use Rattle.event_life.specs.Products.{by_key, is_open, is_held, rows_after}
+use Rattle.event_life.specs.Products.{by_key, is_open, is_number_held, rows_after}
 use Rattle.event_life.proofs.Keys.{key_exact}
 use Rattle.event_life.proofs.Puts.{rows_after-sorted}
 use Rattle.hazard_board.specs.Clashes.{least_clash}
@@ -78,7 +78,7 @@ record WasOpen (rows : List Row) (t : ℕ) (e : Event) : Type 0 where
   going : keeps_open t row ≡ true
 
 record IsFree (rows : List Row) (t : ℕ) (e : Event) : Type 0 where
-  number : is_held rows t e ≡ false
+  number : is_number_held rows t e ≡ false
   year : e.year ≡ year_of t
 
 module _ (rows : List Row) (t : ℕ) where

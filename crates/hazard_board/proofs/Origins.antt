@@ -17,7 +17,7 @@ use Rattle.event_life.specs.declared.life.Life.{Life}
 use Rattle.event_life.specs.Bounds.{IsBefore, IsLongBefore, IsNear, JoinsEvent, GoesOnFrom, Stays, EndsAsPrinted, IsOpened, IsCarriedOn, IsEnded}
 use Rattle.event_life.specs.Firsts.{is_lawful, first_line, row_by_first}
 use Rattle.event_life.specs.Lives.{opens, goes_on, ends}
-use Rattle.event_life.specs.Products.{by_key, row_at, life_of, row_of, row_after, is_open, is_held, is_new, is_routine, concerns, around_of, rows_after}
+use Rattle.event_life.specs.Products.{by_key, row_at, life_of, row_of, row_after, is_open, is_number_held, is_new, is_routine, concerns, around_of, rows_after}
 use Rattle.event_life.specs.Table.{breach_of_line, life_after_lawful_line, unless_breach, step}
 use Rattle.event_life.proofs.BoundsLemmas.{none_ok, new_exactly, exa_exactly, exb_exactly, con_exactly, cor_exactly, ext_exactly, can_exactly, exp_exactly, upg_exactly, opens_leaves, goes_on_leaves, ends_leaves}
 use Rattle.event_life.proofs.LivesLemmas.{none_from_test, find-passes}
@@ -28,7 +28,7 @@ use Rattle.hazard_board.proofs.Among.{IsAmong, found_among, found_at}
 
 -- NEW opens an event of the year whose number is free; EXA and EXB join one that is open
 abbrev pub IsFreeOrOpen : List Row → ℕ → Event → Type 0
-IsFreeOrOpen rows t e = ((is_held rows t e ≡ false) × (e.year ≡ year_of t)) ⊎ (is_open rows t e ≡ true)
+IsFreeOrOpen rows t e = ((is_number_held rows t e ≡ false) × (e.year ≡ year_of t)) ⊎ (is_open rows t e ≡ true)
 
 -- a line opened the row
 pub record WasOpened (rows : List Row) (t : ℕ) (r : Row) : Type 0 where
@@ -130,7 +130,7 @@ module _ (rows : List Row) (t : ℕ) (line : Line) (around : Around) where
 
   -- the row that a lawful line leaves
   left_by : (a : Action) → line.action ≡ a → is_routine a ≡ false → (o : Option Row) → row_at rows line.event line.zone ≡ o → HasNone o →
-      around.going ≡ is_open rows t line.event → around.held ≡ is_held rows t line.event → (is_new line.action ≡ true → line.event.year ≡ year_of t) → IsLeft rows t (RowLeft o)
+      around.going ≡ is_open rows t line.event → around.held ≡ is_number_held rows t line.event → (is_new line.action ≡ true → line.event.year ≡ year_of t) → IsLeft rows t (RowLeft o)
   left_by New e own o found h going held year =
       let n = (new_exactly (option_map life_of o) line t around e).0 (is_ok o h) in
       let b = begin_printed line.begin line.end t n.1.begin in

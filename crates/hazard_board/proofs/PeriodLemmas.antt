@@ -31,7 +31,7 @@ use Rattle.hazard_board.specs.Periods.{later_first, by_period, by_event_end, onl
 use Rattle.hazard_board.specs.Seats.{left_at, left_out}
 use Rattle.hazard_board.specs.Spots.{by_year}
 use Rattle.hazard_board.specs.Standing.{latest_end}
-use Rattle.hazard_board.specs.Taken.{wanted, row_if, row_after_on_life, put_if}
+use Rattle.hazard_board.specs.Taken.{wanted, row_if, row_after_on_life, add_row_if_some}
 use Rattle.hazard_board.specs.declared.periods.PeriodCount.{PeriodCount}
 use Rattle.hazard_board.proofs.GoingLemmas.{open_by, open_by_end}
 use Rattle.event_life.proofs.Keyed.{same_tests}
@@ -651,11 +651,11 @@ in_place : (rows : List Row) (line : Line) (old : Option Row) (row : Row) → (r
 in_place rows line old row key is = is ∙ ap (λ (e : Event). row_at rows e line.zone) (sym key.0) ∙ ap (row_at rows row.event) (sym key.1)
 
 module _ (rows : List Row) (periods : List PeriodCount) (line : Line) (t : ℕ) (life : Option Life) (old : Option Row) (are : AreCounted rows periods) (up : IsStrictlySortedBy by_key rows) (is : old ≡ row_at rows line.event line.zone) where
-  pub room_left : (o : Option Row) (capacity : ℕ) → row_after_on_life life t line ≡ o → length (put_if o rows) ≤ capacity → counted any_period periods + one_if any_period o ≤ capacity + one_if any_period old
+  pub room_left : (o : Option Row) (capacity : ℕ) → row_after_on_life life t line ≡ o → length (add_row_if_some o rows) ≤ capacity → counted any_period periods + one_if any_period o ≤ capacity + one_if any_period old
   room_left None capacity h room = let few = few_unended any_period rows in omega (arith, few, room, are.told any_period)
   room_left (Some row) capacity h room = room_there rows periods old row capacity are up (in_place rows line old row (left_key life t line row h) is) room
 
-  pub counted_left_by : (o : Option Row) (after : List PeriodCount) → row_after_on_life life t line ≡ o → AreInOrder after → AreCountedWith old o periods after → AreCounted (put_if o rows) after
+  pub counted_left_by : (o : Option Row) (after : List PeriodCount) → row_after_on_life life t line ≡ o → AreInOrder after → AreCountedWith old o periods after → AreCounted (add_row_if_some o rows) after
   counted_left_by None after h stand told = subst (λ (some : List PeriodCount). AreCounted rows some) (sym told) are
   counted_left_by (Some row) after h stand told = counted_with rows periods after old row are up (in_place rows line old row (left_key life t line row h) is) stand told
 

@@ -10,7 +10,7 @@ use Rattle.hazard_types.specs.declared.line.Line.{Line}
 use Rattle.hazard_types.specs.declared.period.End.{End}
 use Rattle.hazard_types.proofs.Equality.{event_one, end_one, end_itself}
 use Rattle.event_life.specs.Products.{is_routine}
-use Rattle.hazard_board.specs.Standing.{end_in, touches, touched, touches_anew, are_one, moves_end, newly}
+use Rattle.hazard_board.specs.Standing.{end_in, touches, touched, touches_anew, are_equal_ends, moves_end, newly}
 use Rattle.hazard_board.specs.Periods.{latest_in}
 use Rattle.hazard_board.specs.declared.periods.PeriodCount.{PeriodCount}
 use Rattle.hazard_board.specs.declared.standing.Standing.{Standing}
@@ -67,13 +67,13 @@ kept_step true same false old was latest h o = o
 kept_step false true false old was latest h o = h refl refl
 kept_step false false false old was latest h o = o
 
-one_end : (a b : Option End) → are_one a b ≡ true → a ≡ b
+one_end : (a b : Option End) → are_equal_ends a b ≡ true → a ≡ b
 one_end None None h = refl
 one_end None (Some b) h = cc
 one_end (Some a) None h = cc
 one_end (Some a) (Some b) h = ap (λ (x : End). Some x) (end_one a b h)
 
-itself_one : (a : Option End) → are_one a a ≡ true
+itself_one : (a : Option End) → are_equal_ends a a ≡ true
 itself_one None = refl
 itself_one (Some a) = end_itself a
 
@@ -108,10 +108,10 @@ module _ (rows : List PeriodCount) (lines : List Line) (was now : List Standing)
   -- where the end of its event moves, no line before was of it
   pub moves_anew : moves_end now line (latest_in rows line.event) ≡ true → touches_anew (take i lines) line ≡ true
   moves_anew h =
-      let p = moved_parts (is_routine line.action) (are_one (end_in now line.event) (latest_in rows line.event)) h in
+      let p = moved_parts (is_routine line.action) (are_equal_ends (end_in now line.event) (latest_in rows line.event)) h in
       let first : touched (take i lines) line.event ≡ false = false_from_ne_true _ (λ g.
       let there : end_in now line.event ≡ latest_in rows line.event = so_far line.event ∙ ap (λ (b : Bool). cond b (latest_in rows line.event) (end_in was line.event)) g in
-      let one : are_one (end_in now line.event) (latest_in rows line.event) ≡ true = ap (λ (o : Option End). are_one o (latest_in rows line.event)) there ∙ itself_one (latest_in rows line.event) in
+      let one : are_equal_ends (end_in now line.event) (latest_in rows line.event) ≡ true = ap (λ (o : Option End). are_equal_ends o (latest_in rows line.event)) there ∙ itself_one (latest_in rows line.event) in
       true≢false (sym one ∙ p.1)) in
       both_not (is_routine line.action) (touched (take i lines) line.event) p.0 first
 
@@ -119,7 +119,7 @@ module _ (rows : List PeriodCount) (lines : List Line) (was now : List Standing)
   settled_still h e =
       kept_step (is_routine line.action) (same_event line.event e) (touched (take i lines) e) (end_in now e) (end_in was e) (latest_in rows e)
       (λ same own.
-      let one = one_end (end_in now line.event) (latest_in rows line.event) (unmoved (is_routine line.action) (are_one (end_in now line.event) (latest_in rows line.event)) h own) in
+      let one = one_end (end_in now line.event) (latest_in rows line.event) (unmoved (is_routine line.action) (are_equal_ends (end_in now line.event) (latest_in rows line.event)) h own) in
       let key = event_one line.event e same in
       ap (end_in now) (sym key) ∙ one ∙ ap (latest_in rows) key) (so_far e)
       ∙ ap (λ (b : Bool). cond b (latest_in rows e) (end_in was e)) (sym (grown lines i line e within is))
@@ -129,8 +129,8 @@ module _ (rows : List PeriodCount) (lines : List Line) (was now : List Standing)
   settled_by false told h = settled_still (h refl)
   settled_by true told h =
       let there : end_in now line.event ≡ latest_in rows line.event = so_far line.event ∙ ap (λ (b : Bool). cond b (latest_in rows line.event) (end_in was line.event)) told in
-      let one : are_one (end_in now line.event) (latest_in rows line.event) ≡ true = ap (λ (o : Option End). are_one o (latest_in rows line.event)) there ∙ itself_one (latest_in rows line.event) in
-      settled_still (never_moves (is_routine line.action) (are_one (end_in now line.event) (latest_in rows line.event)) one)
+      let one : are_equal_ends (end_in now line.event) (latest_in rows line.event) ≡ true = ap (λ (o : Option End). are_equal_ends o (latest_in rows line.event)) there ∙ itself_one (latest_in rows line.event) in
+      settled_still (never_moves (is_routine line.action) (are_equal_ends (end_in now line.event) (latest_in rows line.event)) one)
 
   -- the event of the line has the end of before
   end_unset : touches_anew (take i lines) line ≡ true → end_in now line.event ≡ end_in was line.event

@@ -14,8 +14,8 @@ use Rattle.event_life.proofs.Puts.{all_above}
 use Rattle.event_life.proofs.Keys.{key_exact}
 use Rattle.hazard_board.specs.Board.{slice_of}
 use Rattle.hazard_board.specs.ByZone.{lines_of}
-use Rattle.hazard_board.specs.Taken.{wanted, row_if, row_left, put_if, rows_taken}
-use Rattle.hazard_board.proofs.Turns.{put_if-sorted}
+use Rattle.hazard_board.specs.Taken.{wanted, row_if, row_left, add_row_if_some, rows_taken}
+use Rattle.hazard_board.proofs.Turns.{add_row_if_some-sorted}
 
 -- the lines speak of the zone
 abbrev pub names_zone : Place → List Line → Bool
@@ -76,20 +76,20 @@ put_in : (b : Bool) (z : Place) (row : Row) (rows : List Row) → same_zone row.
 put_in true z row rows is up = slice_put z row rows is up
 put_in false z row rows is up = slice_other z row rows is
 
-left_in : (r : Result Life Breach) (z : Place) (line : Line) (rows : List Row) → IsStrictlySortedBy by_key rows → slice_of z (put_if (row_if line r) rows) ≡ cond (same_zone line.zone z) (put_if (row_if line r) (slice_of z rows)) (slice_of z rows)
+left_in : (r : Result Life Breach) (z : Place) (line : Line) (rows : List Row) → IsStrictlySortedBy by_key rows → slice_of z (add_row_if_some (row_if line r) rows) ≡ cond (same_zone line.zone z) (add_row_if_some (row_if line r) (slice_of z rows)) (slice_of z rows)
 left_in (Ok life) z line rows up = put_in (same_zone line.zone z) z (row_of line life) rows refl up
 left_in (Err breach) z line rows up = cond_same (same_zone line.zone z) (slice_of z rows)
 
 slice_left : (routine : Bool) (z : Place) (before : List Row) (t : ℕ) (line : Line) (rows : List Row) → is_routine line.action ≡ routine → IsStrictlySortedBy by_key rows →
-    slice_of z (put_if (row_left before t line) rows) ≡ cond (same_zone line.zone z) (put_if (row_left before t line) (slice_of z rows)) (slice_of z rows)
+    slice_of z (add_row_if_some (row_left before t line) rows) ≡ cond (same_zone line.zone z) (add_row_if_some (row_left before t line) (slice_of z rows)) (slice_of z rows)
 slice_left true z before t line rows own up = rw own (cond_same (same_zone line.zone z) (slice_of z rows))
 slice_left false z before t line rows own up = rw own (left_in (step (life_at before line) line t (wanted line.action)) z line rows up)
 
 abbrev pub taken_in : List Row → ℕ → List Row → List Line → List Row
-taken_in rows t after own = fold (λ (after : List Row) (line : Line). put_if (row_left rows t line) after) after own
+taken_in rows t after own = fold (λ (after : List Row) (line : Line). add_row_if_some (row_left rows t line) after) after own
 
 own_first : (b : Bool) (z : Place) (rows : List Row) (t : ℕ) (line : Line) (lines : List Line) (after : List Row) →
-    taken_in rows t after (cond b (line ∷ lines_of z lines) (lines_of z lines)) ≡ taken_in rows t (cond b (put_if (row_left rows t line) after) after) (lines_of z lines)
+    taken_in rows t after (cond b (line ∷ lines_of z lines) (lines_of z lines)) ≡ taken_in rows t (cond b (add_row_if_some (row_left rows t line) after) after) (lines_of z lines)
 own_first true z rows t line lines after = refl
 own_first false z rows t line lines after = refl
 
@@ -99,7 +99,7 @@ taken_on z rows t [] after up = refl
 taken_on z rows t (line ∷ lines) after up =
     own_first (same_zone line.zone z) z rows t line lines (slice_of z after)
     ∙ ap (λ (a : List Row). taken_in rows t a (lines_of z lines)) (sym (slice_left (is_routine line.action) z rows t line after refl up))
-    ∙ taken_on z rows t lines (put_if (row_left rows t line) after) (put_if-sorted (row_left rows t line) after up)
+    ∙ taken_on z rows t lines (add_row_if_some (row_left rows t line) after) (add_row_if_some-sorted (row_left rows t line) after up)
 
 pub taken_slice : (z : Place) (rows : List Row) (t : ℕ) (lines : List Line) → IsStrictlySortedBy by_key rows → taken_in rows t (slice_of z rows) (lines_of z lines) ≡ slice_of z (rows_taken rows t lines)
 taken_slice z rows t lines up = taken_on z rows t lines rows up
@@ -108,18 +108,18 @@ pub either_false : (a b : Bool) → (a || b) ≡ false → (a ≡ false) × (b �
 either_false true b h = cc
 either_false false b h = (refl, h)
 
-left_elsewhere : (routine : Bool) (r : Result Life Breach) (z : Place) (line : Line) (rows : List Row) → same_zone line.zone z ≡ false → slice_of z (put_if (cond routine None (row_if line r)) rows) ≡ slice_of z rows
+left_elsewhere : (routine : Bool) (r : Result Life Breach) (z : Place) (line : Line) (rows : List Row) → same_zone line.zone z ≡ false → slice_of z (add_row_if_some (cond routine None (row_if line r)) rows) ≡ slice_of z rows
 left_elsewhere true r z line rows other = refl
 left_elsewhere false (Ok life) z line rows other = slice_other z (row_of line life) rows other
 left_elsewhere false (Err breach) z line rows other = refl
 
 -- a zone that no line names is as before
 
-pub taken_else : (z : Place) (rows : List Row) (t : ℕ) (lines : List Line) (after : List Row) → names_zone z lines ≡ false → slice_of z (fold (λ (a : List Row) (l : Line). put_if (row_left rows t l) a) after lines) ≡ slice_of z after
+pub taken_else : (z : Place) (rows : List Row) (t : ℕ) (lines : List Line) (after : List Row) → names_zone z lines ≡ false → slice_of z (fold (λ (a : List Row) (l : Line). add_row_if_some (row_left rows t l) a) after lines) ≡ slice_of z after
 taken_else z rows t [] after h = refl
 taken_else z rows t (line ∷ lines) after h =
     let p = either_false (same_zone line.zone z) (names_zone z lines) h in
-    taken_else z rows t lines (put_if (row_left rows t line) after) p.1 ∙ left_elsewhere (is_routine line.action) (step (life_at rows line) line t (wanted line.action)) z line after p.0
+    taken_else z rows t lines (add_row_if_some (row_left rows t line) after) p.1 ∙ left_elsewhere (is_routine line.action) (step (life_at rows line) line t (wanted line.action)) z line after p.0
 
 -- the slice of a zone stands in order
 pub slice_in_order : (z : Place) (rows : List Row) → IsStrictlySortedBy by_key rows → IsStrictlySortedBy by_key (slice_of z rows)

@@ -18,8 +18,8 @@ use Rattle.event_life.specs.Products.{by_key, put, row_at}
 use Rattle.event_life.proofs.Keys.{then_parts}
 use Rattle.event_life.proofs.Puts.{at_key, row_at-put}
 use Rattle.hazard_board.specs.Seats.{placed_at, put_at}
-use Rattle.hazard_board.specs.Spots.{by_year, by_spot, is_spot, has_spot, spots_of, spot_of, put_spot, put_spot_if, AreSpots}
-use Rattle.hazard_board.specs.Taken.{row_left, put_if, taken_in_turn}
+use Rattle.hazard_board.specs.Spots.{by_year, by_spot, is_spot, has_spot, spots_of, spot_of, put_spot, add_spot_if, AreSpots}
+use Rattle.hazard_board.specs.Taken.{row_left, add_row_if_some, taken_in_turn}
 use Rattle.hazard_board.specs.declared.spots.Spot.{Spot}
 use Rattle.hazard_board.proofs.Places.{alike, is_tied, first_less}
 use Rattle.hazard_board.proofs.Runs.{Rises, front, back, rises, run, keeps_put}
@@ -193,7 +193,7 @@ spots_with row rows spots up are = record {
       omega (arith, long, rows_long, has, are.count);
 }
 
-pub spots_with_if : (o : Option Row) (rows : List Row) (spots : List Spot) → IsStrictlySortedBy by_key rows → AreSpots rows spots → AreSpots (put_if o rows) (put_spot_if o spots)
+pub spots_with_if : (o : Option Row) (rows : List Row) (spots : List Spot) → IsStrictlySortedBy by_key rows → AreSpots rows spots → AreSpots (add_row_if_some o rows) (add_spot_if o spots)
 spots_with_if None rows spots up are = are
 spots_with_if (Some row) rows spots up are = spots_with row rows spots up are
 
@@ -203,11 +203,11 @@ unfolding IsStrictlySortedBy
 no_spots = record { order = tt; told = λ e z. refl; count = refl }
 
 -- a line that is taken, and those behind it
-pub turn_next : (t : ℕ) (now after target : List Row) (lines : List Line) (i : ℕ) (line : Line) (row : Option Row) → i < length lines → line ≡ get_or lines i line → row ≡ row_left now t line → after ≡ put_if row now →
+pub turn_next : (t : ℕ) (now after target : List Row) (lines : List Line) (i : ℕ) (line : Line) (row : Option Row) → i < length lines → line ≡ get_or lines i line → row ≡ row_left now t line → after ≡ add_row_if_some row now →
     taken_in_turn t now (drop i lines) ≡ target → taken_in_turn t after (drop (i + 1) lines) ≡ target
 turn_next t now after target lines i line row within is left put so_far =
     let next : suc i ≡ i + 1 = omega arith in
     let cut : drop i lines ≡ line ∷ drop (i + 1) lines = drop-cons lines i line within ∙ ap (λ (l : Line). l ∷ drop (suc i) lines) (sym is) ∙ ap (λ (n : ℕ). line ∷ drop n lines) next in
-    ap (λ (rows : List Row). taken_in_turn t rows (drop (i + 1) lines)) (put ∙ ap (λ (o : Option Row). put_if o now) left)
+    ap (λ (rows : List Row). taken_in_turn t rows (drop (i + 1) lines)) (put ∙ ap (λ (o : Option Row). add_row_if_some o now) left)
     ∙ ap (taken_in_turn t now) (sym cut)
     ∙ so_far

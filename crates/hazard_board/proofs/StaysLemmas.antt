@@ -10,14 +10,14 @@ use Rattle.event_life.specs.declared.life.Life.{Life}
 use Rattle.event_life.proofs.Puts.{at_key, at_key-parts, row_at-put}
 use Rattle.hazard_board.specs.NewClashes.{is_same, stays}
 use Rattle.hazard_board.specs.Spots.{AreSpots}
-use Rattle.hazard_board.specs.Taken.{row_after_on_life, put_if}
+use Rattle.hazard_board.specs.Taken.{row_after_on_life, add_row_if_some}
 use Rattle.hazard_board.specs.declared.spots.Spot.{Spot}
 use Rattle.hazard_board.proofs.NewClashLemmas.{put_same}
 use Rattle.hazard_board.proofs.PeriodLemmas.{left_key}
 use Rattle.hazard_board.proofs.Turns.{put_held}
 
 -- rows stay where a line leaves the row that it meets
-pub stays_put : (rows : List Row) → IsStrictlySortedBy by_key rows → (e : Event) (z : Place) (old o : Option Row) → old ≡ row_at rows e z → stays old o ≡ true → put_if o rows ≡ rows
+pub stays_put : (rows : List Row) → IsStrictlySortedBy by_key rows → (e : Event) (z : Place) (old o : Option Row) → old ≡ row_at rows e z → stays old o ≡ true → add_row_if_some o rows ≡ rows
 stays_put rows up e z old None is h = refl
 stays_put rows up e z old (Some row) is h = put_same rows up e z row (ap (λ (x : Option Row). is_same x row) (sym is) ∙ h)
 
@@ -37,7 +37,7 @@ spots_there row rows spots up there are = record {
 }
 
 pub spots_held : (rows : List Row) (spots : List Spot) (line : Line) (life : Option Life) (t : ℕ) (old o : Option Row) → IsStrictlySortedBy by_key rows → AreSpots rows spots →
-    old ≡ row_at rows line.event line.zone → is_some old ≡ true → row_after_on_life life t line ≡ o → AreSpots (put_if o rows) spots
+    old ≡ row_at rows line.event line.zone → is_some old ≡ true → row_after_on_life life t line ≡ o → AreSpots (add_row_if_some o rows) spots
 spots_held rows spots line life t old None up are is some left = are
 spots_held rows spots line life t old (Some row) up are is some left =
     let key = left_key life t line row left in

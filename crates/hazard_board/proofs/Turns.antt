@@ -20,7 +20,7 @@ use Rattle.event_life.proofs.Puts.{at_key, at_key-parts, none_above, all_above, 
 use Rattle.event_life.specs.Reordered.{are_lawful}
 use Rattle.event_life.proofs.Keys.{key_exact, key_ties}
 use Rattle.hazard_board.specs.Board.{openings}
-use Rattle.hazard_board.specs.Taken.{put_if, row_left, rows_taken, taken_in_turn}
+use Rattle.hazard_board.specs.Taken.{add_row_if_some, row_left, rows_taken, taken_in_turn}
 use Rattle.hazard_board.proofs.Alone.{lawful_left, meets_life}
 
 -- a row more at most
@@ -35,7 +35,7 @@ pub put_longer : (row : Row) (rows : List Row) → (length rows ≤ length (put 
 put_longer row [] = (omega arith, omega arith)
 put_longer row (r ∷ rows) = let more = put_longer row rows in placed_longer (by_key row r) row r rows (put row rows) more.0 more.1
 
-put_if_longer : (o : Option Row) (rows : List Row) → length rows ≤ length (put_if o rows)
+put_if_longer : (o : Option Row) (rows : List Row) → length rows ≤ length (add_row_if_some o rows)
 put_if_longer None rows = omega arith
 put_if_longer (Some row) rows = (put_longer row rows).0
 
@@ -43,7 +43,7 @@ pub turns_longer : (t : ℕ) (rows : List Row) (lines : List Line) → length ro
 turns_longer t rows [] = omega arith
 turns_longer t rows (line ∷ lines) =
     let one = put_if_longer (row_left rows t line) rows in
-    let more = turns_longer t (put_if (row_left rows t line) rows) lines in
+    let more = turns_longer t (add_row_if_some (row_left rows t line) rows) lines in
     omega (arith, one, more)
 
 -- a row in the place of one of its zone and event
@@ -206,8 +206,8 @@ module _ (rows : List Row) (t : ℕ) (all : List Line) where
   -- lines that meet the rows before them
 
   taken_step : (after : List Row) (earlier : List Line) (line : Line) (lines : List Line) (routine : Bool) → is_routine line.action ≡ routine → have_none earlier (line ∷ lines) ≡ true →
-      ((more : List Row) → have_none (earlier ++ line ∷ []) lines ≡ true → fold (λ (a : List Row) (l : Line). put_if (row_left rows t l) a) more lines ≡ put_all rows t (lawful_of (judged_from rows t all (earlier ++ line ∷ []) lines)) more) →
-      fold (λ (a : List Row) (l : Line). put_if (row_left rows t l) a) after (line ∷ lines) ≡ put_all rows t (lawful_of (judged_from rows t all earlier (line ∷ lines))) after
+      ((more : List Row) → have_none (earlier ++ line ∷ []) lines ≡ true → fold (λ (a : List Row) (l : Line). add_row_if_some (row_left rows t l) a) more lines ≡ put_all rows t (lawful_of (judged_from rows t all (earlier ++ line ∷ []) lines)) more) →
+      fold (λ (a : List Row) (l : Line). add_row_if_some (row_left rows t l) a) after (line ∷ lines) ≡ put_all rows t (lawful_of (judged_from rows t all earlier (line ∷ lines))) after
   taken_step after earlier line lines true own h more =
       let p = and_parts (is_none (breach_in rows t all earlier line)) _ h in
       rw own (more after p.1)
@@ -216,7 +216,7 @@ module _ (rows : List Row) (t : ℕ) (all : List Line) where
       let q = lawful_parts rows t all earlier line own p.0 in
       rw (lawful_left rows t line (around_of rows t all line) own q.1, own, p.0) (more (put (row_after rows t line) after) p.1)
 
-  pub taken : (earlier lines : List Line) (after : List Row) → have_none earlier lines ≡ true → fold (λ (a : List Row) (l : Line). put_if (row_left rows t l) a) after lines ≡ put_all rows t (lawful_of (judged_from rows t all earlier lines)) after
+  pub taken : (earlier lines : List Line) (after : List Row) → have_none earlier lines ≡ true → fold (λ (a : List Row) (l : Line). add_row_if_some (row_left rows t l) a) after lines ≡ put_all rows t (lawful_of (judged_from rows t all earlier lines)) after
   taken earlier [] after h = refl
   taken earlier (line ∷ lines) after h = taken_step after earlier line lines (is_routine line.action) refl h (taken (earlier ++ line ∷ []) lines)
 
@@ -234,20 +234,20 @@ lawful_taken rows t lines h = taken rows t lines [] lines rows h
 
 -- a line makes the rows no longer than all the lines do
 pub grown_at : (t : ℕ) (start now : List Row) (lines : List Line) (i : ℕ) (line : Line) → i < length lines → line ≡ get_or lines i line →
-    taken_in_turn t now (drop i lines) ≡ taken_in_turn t start lines → length (put_if (row_left now t line) now) ≤ length (taken_in_turn t start lines)
+    taken_in_turn t now (drop i lines) ≡ taken_in_turn t start lines → length (add_row_if_some (row_left now t line) now) ≤ length (taken_in_turn t start lines)
 grown_at t start now lines i line within is e =
     let cut : drop i lines ≡ line ∷ drop (suc i) lines = drop-cons lines i line within ∙ ap (λ (l : Line). l ∷ drop (suc i) lines) (sym is) in
-    let whole : taken_in_turn t start lines ≡ taken_in_turn t (put_if (row_left now t line) now) (drop (suc i) lines) = sym e ∙ ap (taken_in_turn t now) cut in
-    rw whole (turns_longer t (put_if (row_left now t line) now) (drop (suc i) lines))
+    let whole : taken_in_turn t start lines ≡ taken_in_turn t (add_row_if_some (row_left now t line) now) (drop (suc i) lines) = sym e ∙ ap (taken_in_turn t now) cut in
+    rw whole (turns_longer t (add_row_if_some (row_left now t line) now) (drop (suc i) lines))
 
 -- rows stay in order where lines are taken
-pub put_if-sorted : (o : Option Row) (rows : List Row) → IsStrictlySortedBy by_key rows → IsStrictlySortedBy by_key (put_if o rows)
-put_if-sorted None rows up = up
-put_if-sorted (Some row) rows up = put-sorted row rows up
+pub add_row_if_some-sorted : (o : Option Row) (rows : List Row) → IsStrictlySortedBy by_key rows → IsStrictlySortedBy by_key (add_row_if_some o rows)
+add_row_if_some-sorted None rows up = up
+add_row_if_some-sorted (Some row) rows up = put-sorted row rows up
 
-taken_on-sorted : (rows : List Row) (t : ℕ) (lines : List Line) (after : List Row) → IsStrictlySortedBy by_key after → IsStrictlySortedBy by_key (fold (λ (a : List Row) (l : Line). put_if (row_left rows t l) a) after lines)
+taken_on-sorted : (rows : List Row) (t : ℕ) (lines : List Line) (after : List Row) → IsStrictlySortedBy by_key after → IsStrictlySortedBy by_key (fold (λ (a : List Row) (l : Line). add_row_if_some (row_left rows t l) a) after lines)
 taken_on-sorted rows t [] after up = up
-taken_on-sorted rows t (line ∷ lines) after up = taken_on-sorted rows t lines (put_if (row_left rows t line) after) (put_if-sorted (row_left rows t line) after up)
+taken_on-sorted rows t (line ∷ lines) after up = taken_on-sorted rows t lines (add_row_if_some (row_left rows t line) after) (add_row_if_some-sorted (row_left rows t line) after up)
 
 pub rows_taken-sorted : (rows : List Row) (t : ℕ) (lines : List Line) → IsStrictlySortedBy by_key rows → IsStrictlySortedBy by_key (rows_taken rows t lines)
 rows_taken-sorted rows t lines up = taken_on-sorted rows t lines rows up

@@ -39,5 +39,5 @@ abbrev pub openings : List Line → ℕ
 openings lines = count_by (λ (line : Line). opens line.action) lines
 
 -- how a row stands by that of an event in a zone
-abbrev pub stands_by : Event → Place → Row → Ordering
-stands_by e z r = ordering_then (by_place r.zone z) (by_event r.event e)
+abbrev pub compare_row_key : Event → Place → Row → Ordering
+compare_row_key e z r = ordering_then (by_place r.zone z) (by_event r.event e)

@@ -5,7 +5,7 @@ use Rattle.hazard_types.specs.declared.line.Row.{Row}
 use Rattle.event_life.specs.declared.life.Around.{Around}
 use Rattle.event_life.specs.declared.life.Breach.{Breach}
 use Rattle.event_life.specs.declared.life.Breach.TheVariants.{Twice}
-use Rattle.event_life.specs.Products.{is_routine, is_second, has_rows, is_open, has_same, life_at, put_all}
+use Rattle.event_life.specs.Products.{is_routine, is_second, has_rows, is_open, has_opened_period, life_at, put_all}
 use Rattle.event_life.specs.Table.{breach_of_line}
 
 abbrev pub touches : Line → Bool
@@ -17,7 +17,7 @@ rows_left rows t lines = put_all rows t (filter touches lines) rows
 
 -- what stands around a line, where its number is taken as free, and a higher row as there
 abbrev pub around_freed : List Row → ℕ → Line → Around
-around_freed rows t line = record { opened = has_rows rows line.event; going = is_open rows t line.event; held = false; same = has_same rows t line; higher = true }
+around_freed rows t line = record { opened = has_rows rows line.event; going = is_open rows t line.event; held = false; same = has_opened_period rows t line; higher = true }
 
 -- the first breach of a line but these two, behind the earlier lines of its product
 unfoldable pub breach_but_held : List Row → ℕ → List Line → Line → Option Breach

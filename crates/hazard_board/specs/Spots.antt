@@ -40,9 +40,9 @@ spot_of row = record { event = row.event; zone = row.zone }
 abbrev pub put_spot : Spot → List Spot → List Spot
 put_spot s spots = put_at (λ (x : Spot). by_spot x s) s spots
 
-abbrev pub put_spot_if : Option Row → List Spot → List Spot
-put_spot_if None spots = spots
-put_spot_if (Some row) spots = put_spot (spot_of row) spots
+abbrev pub add_spot_if : Option Row → List Spot → List Spot
+add_spot_if None spots = spots
+add_spot_if (Some row) spots = put_spot (spot_of row) spots
 
 abbrev pub first_found : Option Row → List Row → List Row
 first_found None rows = rows
@@ -62,12 +62,12 @@ first_of [] = None
 first_of (row ∷ rows) = Some row
 
 -- the row is live with this period
-abbrev pub has_same : Period → ℕ → Row → Bool
-has_same p t r = is_live t r && same_at t r.period p
+abbrev pub has_opened_period : Period → ℕ → Row → Bool
+has_opened_period p t r = is_live t r && same_at t r.period p
 
 abbrev pub has_same_if : Period → ℕ → Option Row → Bool
 has_same_if p t None = false
-has_same_if p t (Some r) = has_same p t r
+has_same_if p t (Some r) = has_opened_period p t r
 
 -- the spots are those of the rows, in order, each once
 pub record AreSpots (rows : List Row) (spots : List Spot) : Type 0 where

@@ -80,15 +80,15 @@ abbrev pub touches_anew : List Line → Line → Bool
 touches_anew earlier line = not (is_routine line.action) && not (touched earlier line.event)
 
 -- both are one end, or none
-abbrev pub are_one : Option End → Option End → Bool
-are_one None None = true
-are_one None (Some b) = false
-are_one (Some a) None = false
-are_one (Some a) (Some b) = end.eq-value.it a b
+abbrev pub are_equal_ends : Option End → Option End → Bool
+are_equal_ends None None = true
+are_equal_ends None (Some b) = false
+are_equal_ends (Some a) None = false
+are_equal_ends (Some a) (Some b) = end.eq-value.it a b
 
 -- the line touches a life of an event that does not stand with this end
 abbrev pub moves_end : List Standing → Line → Option End → Bool
-moves_end standing line latest = not (is_routine line.action) && not (are_one (end_in standing line.event) latest)
+moves_end standing line latest = not (is_routine line.action) && not (are_equal_ends (end_in standing line.event) latest)
 
 -- how many of the lines that touch a life are of events that are not standing
 abbrev pub newly : List Standing → List Line → ℕ

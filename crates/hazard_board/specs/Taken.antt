@@ -29,14 +29,14 @@ row_after_on_life life t line = if is_routine line.action then None else row_if 
 abbrev pub row_left : List Row → ℕ → Line → Option Row
 row_left rows t line = row_after_on_life (life_at rows line) t line
 
-abbrev pub put_if : Option Row → List Row → List Row
-put_if None rows = rows
-put_if (Some row) rows = put row rows
+abbrev pub add_row_if_some : Option Row → List Row → List Row
+add_row_if_some None rows = rows
+add_row_if_some (Some row) rows = put row rows
 
 -- the rows after the lines, each taken as lawful where the life that it meets allows it
 abbrev pub rows_taken : List Row → ℕ → List Line → List Row
-rows_taken rows t lines = fold (λ (after : List Row) (line : Line). put_if (row_left rows t line) after) rows lines
+rows_taken rows t lines = fold (λ (after : List Row) (line : Line). add_row_if_some (row_left rows t line) after) rows lines
 
 -- the same, where each line meets the rows that the lines before it left
 abbrev pub taken_in_turn : ℕ → List Row → List Line → List Row
-taken_in_turn t rows lines = fold (λ (after : List Row) (line : Line). put_if (row_left after t line) after) rows lines
+taken_in_turn t rows lines = fold (λ (after : List Row) (line : Line). add_row_if_some (row_left after t line) after) rows lines

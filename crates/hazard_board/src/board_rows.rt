@@ -52,7 +52,7 @@ impl Model for BoardRows {
 }
 
 impl BoardRows {
-    /// Empty, without capacity.
+    /// Returns a `BoardRows` without rows and without capacity.
     pub fn new(alloc: Global) -> Self
         ensures { result.rows ≡ [] }
     {
@@ -65,7 +65,9 @@ impl BoardRows {
         }
     }
 
-    /// Returns rows among which are all that are live at `t`: `live` if it has them, else all rows.
+    /// Returns rows, by zone, then event, among which are all that are live at `t` (unended, with
+    /// an end after `t`). They are the field `live` if that is known to hold these, else the field
+    /// `all`; rows that are not live may be among them.
     fn source(&self, t: Minute) -> &Shelves
         ensures alike { shown_at t result.now.rows ≡ shown_at t self.now.rows }
         ensures order { IsStrictlySortedBy by_key result.now.rows }
@@ -82,14 +84,19 @@ impl BoardRows {
         }
     }
 
-    /// Returns the rows that are live at `t`, by zone, then event.
+    /// Returns the rows that are live at `t` (unended, with an end after `t`), by zone, then event.
+    ///
+    /// # Errors
+    ///
+    /// Out of memory.
     pub fn shown(&self, alloc: Global, t: Minute) -> Result<Vec<Row>, Oom>
         ensures { IfOk result (λ shown. shown.items ≡ shown_at t self.now.rows) }
     {
         self.source(t).shown(alloc, t)
     }
 
-    /// Returns rows of a zone, by event, among which are all that are live at `t`.
+    /// Returns rows of zone `z`, by event, among which are all of the zone that are live at `t`
+    /// (unended, with an end after `t`). Some rows that are not live may be among them.
     pub fn rows_in_zone_with_live(&self, z: &Zone, t: Minute) -> &[Row]
         ensures alike { shown_at t result.now ≡ shown_at t (slice_of z.now self.now.rows) }
         ensures order { IsStrictlySortedBy by_key result.now }
@@ -98,8 +105,9 @@ impl BoardRows {
         self.source(t).slice_of(z)
     }
 
-    /// Leaves only the rows in `live` that are live at the last product's minute, unless these are
-    /// more than `MANY`.
+    /// Replaces the field `live` by the rows that are live at the last product's issue minute, if
+    /// these are at most 1,024; else `live` stays. Before the first product it does nothing. `Err`
+    /// is out of memory, and `live` is as before.
     fn renew(&mut self) -> Result<(), Oom>
         ensures rows { self.new.rows ≡ self.old.rows }
         ensures spare { self.new.spare ≡ self.old.spare }
@@ -117,8 +125,10 @@ impl BoardRows {
         Ok(())
     }
 
-    /// Takes memory for `n` more rows in `live`, if it can, and first leaves ended rows out if it
-    /// is time to. A row that finds no room later makes `live` unknown.
+    /// Reserves memory for `n` more rows in the field `live`, after removing ended rows from it if
+    /// enough rows were reserved since the last such removal. It never fails: if memory runs out,
+    /// `live` has less room, and a row that later finds none there makes it no longer known to hold
+    /// all live rows.
     fn make_ready(&mut self, n: usize)
         ensures rows { self.new.rows ≡ self.old.rows }
         ensures spare { self.new.spare ≡ self.old.spare }
@@ -131,7 +141,11 @@ impl BoardRows {
         let _done = self.live.reserve(n);
     }
 
-    /// Takes memory for `n` more rows, in whatever zones.
+    /// Takes memory for at least `n` more rows, whatever their zones are. No row changes.
+    ///
+    /// # Errors
+    ///
+    /// Out of memory.
     pub fn reserve(&mut self, n: usize) -> Result<(), Oom>
         ensures rows { self.new.rows ≡ self.old.rows }
         ensures spare { self.old.spare ≤ self.new.spare }
@@ -143,7 +157,7 @@ impl BoardRows {
         Ok(())
     }
 
-    /// Returns the rows of a zone, by event.
+    /// Returns all rows of a zone, ended ones among them, by event; empty if there are none.
     pub fn slice_of(&self, z: &Zone) -> &[Row]
         ensures rows { result.now ≡ slice_of z.now self.now.rows }
         ensures order { IsStrictlySortedBy by_row_event result.now }
@@ -151,15 +165,16 @@ impl BoardRows {
         self.all.slice_of(z)
     }
 
-    /// Returns the row of an event in a zone.
+    /// Returns the row of an event in a zone, ended or not, or `None` if there is none.
     pub fn row_at(&self, e: &Event, z: &Zone) -> Option<Row>
         ensures { result ≡ row_at self.now.rows e.now z.now }
     {
         self.all.row_at(e, z)
     }
 
-    /// Puts a row, in place of the one with its zone and event if there is one, and takes no
-    /// memory. If `live` has no room for the row, it is no longer known to have all live rows.
+    /// Inserts a row in the order by zone, then event, or replaces the row with its zone and event;
+    /// `reserve` must have taken memory for it. If the field `live` has no room for the row, `live`
+    /// is no longer known to have all live rows.
     pub fn put(&mut self, row: &Row)
         requires { length (put row.now self.old.rows) ≤ self.old.spare + length self.old.rows }
         ensures rows { self.new.rows ≡ put row.now self.old.rows }
@@ -167,13 +182,13 @@ impl BoardRows {
             ≤ self.new.spare + length self.new.rows }
     {
         self.all.put(row);
-        if !self.live.put_if_room(row) {
+        if !self.live.add_if_room(row) {
             self.since = None;
             self.until = 0;
         }
     }
 
-    /// Notes the minute of a product.
+    /// Sets the issue minute of the last product to `t`. No row changes.
     pub fn pass(&mut self, t: Minute)
         ensures rows { self.new.rows ≡ self.old.rows }
         ensures spare { self.new.spare ≡ self.old.spare }

@@ -9,7 +9,8 @@ use std::collections::BTreeMap;
 /// The lines of each zone, in their order.
 pub type LinesByZone = BTreeMap<Zone, List<Line>>;
 
-/// Adds a line after those of its zone.
+/// Appends a line in `zones` to the lines of its zone, after those that are there. `Err` is out of
+/// memory.
 fn add_to_zone(alloc: Global, zones: &mut LinesByZone, line: &Line) -> Result<(), Oom>
     ensures { OnOk result (zones.new.entries ≡ add_to_zones zones.old.entries (line.now ∷ [])) }
 {
@@ -17,7 +18,12 @@ fn add_to_zone(alloc: Global, zones: &mut LinesByZone, line: &Line) -> Result<()
     lines.extend(&[*line])
 }
 
-/// Returns the lines by zone, those of one zone in their order.
+/// Returns a map from each zone that the lines have to the lines of that zone, in the order of
+/// `lines`.
+///
+/// # Errors
+///
+/// Out of memory.
 pub fn lines_by_zone(alloc: Global, lines: &[Line]) -> Result<LinesByZone, Oom>
     ensures { IfOk result (λ zones. zones.entries ≡ add_to_zones [] lines.now) }
 {
@@ -28,7 +34,8 @@ pub fn lines_by_zone(alloc: Global, lines: &[Line]) -> Result<LinesByZone, Oom>
     Ok(zones)
 }
 
-/// Returns the lines of a zone.
+/// Returns the lines that the map has for a zone, in the order in which they were added; empty if
+/// there are none.
 pub fn lines_in<'a>(zones: &'a LinesByZone, zone: &Zone) -> &'a [Line]
     ensures { result.now ≡ lines_at zones.now.entries zone.now }
 {

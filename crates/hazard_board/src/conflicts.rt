@@ -25,7 +25,8 @@ use std::collections::BTreeSet;
 /// A clash, or `None` if there is none; `Oom` if memory ran out on the way.
 pub type FoundClash = Result<Option<Clash>, Oom>;
 
-/// Whether two hazards are of one family.
+/// Whether the table of the desk's hazards gives both hazards the same family. `false` if either is
+/// not in the table or has no family.
 ///
 /// Source: docs/HAZARDS.md.
 fn are_kin(g: &Hazard, h: &Hazard) -> bool
@@ -50,15 +51,16 @@ fn has_family(h: &Hazard) -> bool
     }
 }
 
-/// Whether the row is live at `t` and its hazard has a family. No other row clashes.
+/// Whether the row is live at `t` (unended, with an end after `t`) and its hazard has a family.
+/// Rows for which this is false clash with none.
 fn may_clash(t: Minute, row: &Row) -> bool
     ensures { result ≡ may_clash t row.now }
 {
     is_live(row, t) && has_family(&row.event.hazard)
 }
 
-/// Whether both rows are live at `t` in one zone, and are of two events of one family with periods
-/// that overlap.
+/// Whether both rows are of one zone and live at `t` (unended, with an end after `t`), and are of
+/// two different events of one hazard family with periods that overlap.
 fn clash(t: Minute, a: &Row, b: &Row) -> bool
     ensures { result ≡ clash t a.now b.now }
 {
@@ -70,8 +72,9 @@ fn clash(t: Minute, a: &Row, b: &Row) -> bool
         && are_kin(&a.event.hazard, &b.event.hazard)
 }
 
-/// Returns the clash of `first` with the first row after it that it clashes with; `None` if `first`
-/// is not live. Only rows of its zone are read.
+/// Returns the clash of `first` with the first of `others` that it clashes with at `t`, or `None`
+/// if it clashes with none. `others` are rows that come after `first`, in order by zone, then
+/// event; only those of its zone are read.
 fn clash_with(first: &Row, others: &[Row], t: Minute) -> Option<Clash>
     requires { IsStrictlySortedBy by_key (first.now ∷ others.now) }
     ensures { result ≡ option_map (clash_of first.now) (find (clash t first.now) others.now) }
@@ -94,7 +97,9 @@ fn clash_with(first: &Row, others: &[Row], t: Minute) -> Option<Clash>
     None
 }
 
-/// Returns the clash of the first row that clashes with a later one, with the first of these.
+/// Returns the clash of the first row that clashes at `t` with a row after it, paired with the
+/// first such row after it, or `None` if no two rows clash. The rows are in order by zone, then
+/// event.
 fn first_clash(rows: &[Row], t: Minute) -> Option<Clash>
     requires { IsStrictlySortedBy by_key rows.now }
     ensures { result ≡ first_clash t rows.now }
@@ -108,7 +113,8 @@ fn first_clash(rows: &[Row], t: Minute) -> Option<Clash>
     None
 }
 
-/// Returns those of the rows that may clash.
+/// Returns those of the rows that are live at `t` (unended, with an end after `t`) and whose
+/// hazards have a family, in their order. `Err` is out of memory.
 fn those_that_may_clash(alloc: Global, rows: &[Row], t: Minute) -> Result<Vec<Row>, AllocError>
     ensures { IfOk result (λ some. some.items ≡ filter (may_clash t) rows.now) }
 {
@@ -118,35 +124,38 @@ fn those_that_may_clash(alloc: Global, rows: &[Row], t: Minute) -> Result<Vec<Ro
         .collect(alloc)
 }
 
-/// Whether the two rows clash, in either order.
+/// Whether the two rows clash at `t`, the first with the second or the second with the first.
 fn clash_either(t: Minute, a: &Row, b: &Row) -> bool
     ensures { result ≡ clash_either t a.now b.now }
 {
     clash(t, a, b) || clash(t, b, a)
 }
 
-/// Whether the row clashes with one of `some`.
+/// Whether the row clashes at `t` with one of the rows `some`.
 fn clashes_among(t: Minute, some: &[Row], row: &Row) -> bool
     ensures { result ≡ clashes_among t some.now row.now }
 {
     some.iter().any(|other| clash_either(t, row, other))
 }
 
-/// Whether the row that is left is new or changed, and clashes with one of `some`.
+/// Whether `left`, the row that a line leaves, is marked as new or changed, and clashes at `t` with
+/// one of the rows `some`.
 fn is_new_clash(t: Minute, some: &[Row], left: &Left) -> bool
     ensures { result ≡ is_new_clash t some.now left.now }
 {
     left.is_new && clashes_among(t, some, &left.row)
 }
 
-/// Whether one of the rows that are left is new or changed, and clashes with one of `some`.
+/// Whether one of `lefts`, the rows that lines leave, is marked as new or changed, and clashes at
+/// `t` with one of the rows `some`.
 fn has_new_clash(t: Minute, some: &[Row], lefts: &[Left]) -> bool
     ensures { result ≡ list_any (is_new_clash t some.now) lefts.now }
 {
     lefts.iter().any(|left| is_new_clash(t, some, left))
 }
 
-/// Returns the clash in the earlier zone; `best` if both are in one.
+/// Returns the clash whose zone comes first, or `best` if both are in one zone. If one of the two
+/// is `None`, it returns the other; if both are, `None`.
 fn earlier_clash(best: Option<Clash>, found: Option<Clash>) -> Option<Clash>
     ensures { result ≡ earlier_clash best found }
 {
@@ -165,8 +174,11 @@ fn earlier_clash(best: Option<Clash>, found: Option<Clash>) -> Option<Clash>
     }
 }
 
-/// Returns the first clash in a zone after the lines, of which `own` are the zone's. All pairs are
-/// compared only if a new or changed row clashes, since the others did not clash before.
+/// Returns the first clash, by the pair of events, among the rows that zone `z` has once `lines`
+/// are applied to `rows`, or `Ok(None)` if there is none. `own` are those of `lines` that are of
+/// zone `z`, in their order, and `t` is the issue minute. In `rows` no two unended rows of one zone
+/// and family may have periods that overlap, so pairs are compared only if a new or changed row
+/// clashes.
 ///
 /// Source: docs/DECISIONS.md, "Plans".
 fn clash_in(
@@ -199,14 +211,14 @@ fn is_of_zone(line: &Line, zone: &Zone) -> bool
     line.zone == *zone
 }
 
-/// Whether all lines are of the zone.
+/// Whether all lines are of the zone; `true` if there are no lines.
 fn are_of_zone(lines: &[Line], zone: &Zone) -> bool
     ensures { result ≡ list_all (λ (line : AnyLine). same_zone line.zone zone.now) lines.now }
 {
     lines.iter().all(|line| is_of_zone(line, zone))
 }
 
-/// Returns the zone of the lines, if all are of one.
+/// Returns the zone of the lines, or `None` if there are no lines or they are of several zones.
 fn only_zone(lines: &[Line]) -> Option<Zone>
     ensures { IfSome result
         (λ z. list_all (λ (line : AnyLine). same_zone line.zone z) lines.now ≡ true) }
@@ -224,8 +236,14 @@ fn only_zone(lines: &[Line]) -> Option<Zone>
     }
 }
 
-/// Returns the first clash after `lines`, given that no two unended rows of one zone and family
-/// overlap. Looks at the zones of `lines` only.
+/// Returns the first clash, by zone, then by the pair of events, among the rows that are left once
+/// `lines` are applied to `rows`, or `Ok(None)` if there is none. It reads the zones of `lines`
+/// only, so in `rows` no two unended rows of one zone and family may have periods that overlap. `t`
+/// is the issue minute, at which both rows of a clash are live.
+///
+/// # Errors
+///
+/// Out of memory.
 pub fn clash_in_zones(alloc: Global, rows: &BoardRows, lines: &[Line], t: Minute) -> FoundClash
     requires order { IsStrictlySortedBy by_key rows.now.rows }
     requires apart { EachToLater (λ a b. collide a b ≡ true → ⊥) rows.now.rows }
@@ -248,7 +266,13 @@ pub fn clash_in_zones(alloc: Global, rows: &BoardRows, lines: &[Line], t: Minute
     Ok(best)
 }
 
-/// Returns the first clash after `lines`, in any zone.
+/// Returns the first clash, by zone, then by the pair of events, among the rows that are left once
+/// `lines` are applied to `rows`, or `Ok(None)` if there is none. It reads all zones; `t` is the
+/// issue minute, at which both rows of a clash are live.
+///
+/// # Errors
+///
+/// Out of memory.
 pub fn clash_anywhere(alloc: Global, rows: &BoardRows, lines: &[Line], t: Minute) -> FoundClash
     requires { IsStrictlySortedBy by_key rows.now.rows }
     ensures { IfOk result (λ found. found ≡ first_clash t (rows_taken rows.now.rows t lines.now)) }

@@ -7,7 +7,7 @@
 ghost use Rattle.std.specs.Prelude.{◌≡◌, ◌+◌, ◌≤◌, ◌<◌, [], find, IfOk, OnOk, OnErr, IsTrue, true};
 ghost use Rattle.std.specs.List.Sorted.{IsStrictlySortedBy};
 ghost use Rattle.hazard_types.specs.Same.{same_event};
-ghost use Rattle.event_life.specs.Products.{by_key, row_at, has_rows, going_in, rows_after};
+ghost use Rattle.event_life.specs.Products.{by_key, row_at, has_rows, latest_open_event, rows_after};
 ghost use Rattle.event_life.specs.Shown.{shown_at};
 ghost use Rattle.event_life.specs.Reordered.{are_lawful};
 ghost use Rattle.hazard_board.specs.Board.{has_period, slice_of, live_in, by_row_event, openings};
@@ -36,7 +36,7 @@ pub use laws::{
     lines_on_held_numbers_are_taken, no_event_comes_ahead_of_its_year, no_rows_are_consistent,
     products_keep_rows_consistent, read_rows_are_consistent,
 };
-use lines::bring_lines;
+use lines::apply_lines_to_rows;
 pub use lines::openings;
 use open_events::{of_hazard, open_event};
 use periods::{PeriodCount, has_period};
@@ -113,7 +113,7 @@ impl Board {
         Ok(())
     }
 
-    /// Returns the row of an event in a zone, ended or not.
+    /// Returns the row of an event in a zone, ended or not, or `None` if there is none.
     pub fn row(&self, e: Event, z: Zone) -> Option<Row>
         ensures value { result ≡ row_at self.now.rows e z }
         ensures order { IsStrictlySortedBy by_key self.now.rows }
@@ -130,8 +130,9 @@ impl Board {
         self.rows.slice_of(&z)
     }
 
-    /// Returns rows of a zone, by event, among which are all that are live at `t`. They may be far
-    /// fewer than those of `slice_of`, since most ended rows are left out.
+    /// Returns rows of a zone, by event, among which are all that are live at `t`. A row is live at
+    /// `t` if it is unended and its end is after `t`. They may be far fewer than those of
+    /// `slice_of`, since most ended rows are left out.
     pub fn rows_in_zone_with_live(&self, z: Zone, t: Minute) -> &[Row]
         ensures rows { shown_at t result.now ≡ live_in z t self.now.rows }
         ensures order { IsStrictlySortedBy by_row_event result.now }
@@ -147,38 +148,39 @@ impl Board {
         first_row(&self.rows, &self.spots, &e).is_some()
     }
 
-    /// Returns the first row of an event, by zone, ended or not.
+    /// Returns the first row of an event, by zone, ended or not, or `None` if there is none.
     pub fn first(&self, e: Event) -> Option<Row>
         ensures { result ≡ find (λ r. same_event r.event e) self.now.rows }
     {
         first_row(&self.rows, &self.spots, &e)
     }
 
-    /// Returns the event with a hazard and number that is open at `t`, the one of the greatest year
-    /// if there are several. An event is open if an unended row of it has an end that is at most
-    /// half an hour past.
+    /// Returns the event with hazard `h` and number `etn` that is open at `t`, or `None` if there
+    /// is none. If there are several it is the one of the greatest year. An event is open if it has
+    /// an unended row whose end is not more than half an hour before `t`.
     pub fn going(&self, h: Hazard, etn: u16, t: Minute) -> Option<Event>
-        ensures { result ≡ going_in self.now.rows h etn t }
+        ensures { result ≡ latest_open_event self.now.rows h etn t }
     {
         open_event(&self.standing, &h, etn, t)
     }
 
-    /// Returns the events of a hazard that have an unended row, by number, then year.
+    /// Returns the events of a hazard that have an unended row, by number, then year, each with the
+    /// latest end of these rows.
     pub fn standing(&self, h: Hazard) -> &[Standing]
         ensures { AreStandingOf h self.now.rows result.now }
     {
         of_hazard(&self.standing, &h)
     }
 
-    /// Whether a row of the event that is live at `t` has this period. Begins at `t` or before
-    /// count as equal.
+    /// Whether the event has a row that is live at `t` (unended, with an end after `t`) and has
+    /// this period. Two begins that are both at `t` or before count as equal.
     pub fn same_period(&self, e: Event, p: Period, t: Minute) -> bool
         ensures { result ≡ has_period self.now.rows e p t }
     {
         has_period(&self.periods, t, &e, &p)
     }
 
-    /// Returns the rows of a zone that are live at `t`, by event.
+    /// Returns the rows of a zone that are live at `t` (unended, with an end after `t`), by event.
     ///
     /// # Errors
     ///
@@ -190,7 +192,7 @@ impl Board {
         Ok(List::from_vec(live(alloc, self.rows.rows_in_zone_with_live(&z, t), t)?))
     }
 
-    /// Returns all rows that are live at `t`, by zone, then event.
+    /// Returns all rows that are live at `t` (unended, with an end after `t`), by zone, then event.
     ///
     /// # Errors
     ///
@@ -211,15 +213,17 @@ impl Board {
         ensures spare { self.old.spare ≤ self.new.spare + openings lines.now }
     {
         let lines = lines.as_slice();
-        bring_lines(&mut self.rows, &mut self.spots, &mut self.periods, lines, t);
+        apply_lines_to_rows(&mut self.rows, &mut self.spots, &mut self.periods, lines, t);
         set_latest_ends(&mut self.standing, &self.periods, lines);
         self.rows.pass(t);
     }
 
-    /// Returns the least clash after the lines, by zone, then by the pair of events: two rows of
-    /// one zone that are live at `t`, of events of one family, with periods that overlap. Each line
-    /// is judged by the life that it meets alone, as if the facts about other rows were those of a
-    /// lawful line.
+    /// Returns the first clash, by zone, then by the pair of events, among the rows that are left
+    /// once `lines` are applied, or `Ok(None)` if there is none. A clash is two rows of one zone
+    /// that are live at `t`, the issue minute, and are of different events of one hazard family
+    /// with periods that overlap. Each line is applied to the row that its event had in its zone
+    /// before all lines, whatever other rows there are; one that this row does not allow changes
+    /// nothing.
     ///
     /// # Errors
     ///
@@ -234,8 +238,11 @@ impl Board {
         clash_anywhere(alloc, &self.rows, lines.as_slice(), t)
     }
 
-    /// Returns what `conflict` returns, given that no two unended rows of one zone and family
-    /// overlap. Looks at the zones of `lines` only.
+    /// Returns the first clash, by zone, then by the pair of events, among the rows that are left
+    /// once `lines` are applied, or `Ok(None)` if there is none. A clash is two rows of one zone
+    /// that are live at `t`, the issue minute, and are of different events of one hazard family
+    /// with periods that overlap. It reads the zones of `lines` only, so no two unended rows of the
+    /// board that are of one zone and family may have periods that overlap before the lines.
     ///
     /// # Errors
     ///

@@ -9,17 +9,19 @@ ghost use Rattle.hazard_board.specs.Board.{openings, slice_of};
 ghost use Rattle.hazard_board.specs.NewClashes.{is_same, stays, left_if, left_by, lefts, put_lefts};
 ghost use Rattle.hazard_board.specs.Periods.{AreCounted};
 ghost use Rattle.hazard_board.specs.Spots.{AreSpots};
-ghost use Rattle.hazard_board.specs.Taken.{wanted, row_after_on_life, row_left, put_if, rows_taken, taken_in_turn};
+ghost use Rattle.hazard_board.specs.Taken.{wanted, row_after_on_life, row_left, add_row_if_some, rows_taken, taken_in_turn};
 
 use crate::board_rows::BoardRows;
-use crate::periods::{PeriodCount, count_if};
+use crate::periods::{PeriodCount, update_counts_if_put};
 use crate::searches::put;
-use crate::spots::{Spot, put_spot_if};
+use crate::spots::{Spot, add_spot_if};
 use event_life::{Around, Life, is_routine, life_step, row_of};
 use hazard_types::{Action, Line, Minute, Oom, Row, Zone};
 use std::alloc::Global;
 
-/// Returns the facts about other rows as a lawful line of this action has them.
+/// Returns the facts about other rows that give a line with this action no breach: `going` and
+/// `higher` are true, `opened` and `held` false. `same`, whether another row has the line's period,
+/// is true for EXA alone, which must have such a period.
 fn wanted(action: &Action) -> Around
     ensures { result ≡ wanted action.now }
 {
@@ -32,7 +34,8 @@ fn wanted(action: &Action) -> Around
     }
 }
 
-/// Returns the life of a row, if there is one.
+/// Returns the life of a row (its period, its H-VTEC values and whether it has ended), or `None` if
+/// there is no row.
 fn life_of(row: &Option<Row>) -> Option<Life>
     ensures { result ≡ option_map life_of row.now }
 {
@@ -46,8 +49,9 @@ fn life_of(row: &Option<Row>) -> Option<Life>
     }
 }
 
-/// Returns the row that a line leaves of a life, or `None` if the line is routine or the life does
-/// not allow it.
+/// Returns the row that a line leaves, or `None` if it is ROU or `life` does not allow it. `life`
+/// is that of the line's event in its zone before the line (`None` if there is none), and `t` is
+/// the issue minute. Other rows are taken to be such that the line is lawful.
 fn row_after_on_life(life: Option<Life>, line: &Line, t: Minute) -> Option<Row>
     ensures { result ≡ row_after_on_life life t line.now }
 {
@@ -60,14 +64,15 @@ fn row_after_on_life(life: Option<Life>, line: &Line, t: Minute) -> Option<Row>
     }
 }
 
-/// Returns the row that a line leaves of the life that it meets among `rows`.
+/// Returns the row that a line leaves for its event and zone, given `rows` before it, or `None` if
+/// it is ROU or the row there does not allow it. `t` is the issue minute.
 pub fn row_left(rows: &BoardRows, line: &Line, t: Minute) -> Option<Row>
     ensures { result ≡ row_left rows.now.rows t line.now }
 {
     row_after_on_life(life_of(&rows.row_at(&line.event, &line.zone)), line, t)
 }
 
-/// Whether there was a row and it is equal to `row`.
+/// Whether `held`, the row that was there before, is not `None` and equals `row`.
 fn is_same(held: &Option<Row>, row: &Row) -> bool
     ensures { result ≡ is_same held.now row.now }
 {
@@ -77,7 +82,8 @@ fn is_same(held: &Option<Row>, row: &Row) -> bool
     }
 }
 
-/// Whether a line leaves no row, or the one that was there.
+/// Whether a line changes no row: `row`, which it leaves, is `None` or equals `old`, which was
+/// there before.
 fn stays(old: &Option<Row>, row: &Option<Row>) -> bool
     ensures { result ≡ stays old.now row.now }
 {
@@ -95,7 +101,8 @@ pub struct Left {
     pub is_new: bool,
 }
 
-/// Returns the row that is left, if there is one, marked as new or not by the one that was there.
+/// Returns `row`, which a line leaves, marked as new unless it equals `held`, which was there
+/// before; `None` if `row` is `None`.
 fn left_if(held: &Option<Row>, row: Option<Row>) -> Option<Left>
     ensures { result ≡ left_if held.now row }
 {
@@ -108,7 +115,7 @@ fn left_if(held: &Option<Row>, row: Option<Row>) -> Option<Left>
     }
 }
 
-/// Adds the row that is left, if there is one.
+/// Appends `left` to `lefts`, or does nothing if it is `None`. `Err` is out of memory.
 fn add_if(lefts: &mut Vec<Left>, left: &Option<Left>) -> Result<(), Oom>
     ensures { OnOk result (lefts.new.items ≡ lefts.old.items ++ option_to_list left.now) }
 {
@@ -121,7 +128,9 @@ fn add_if(lefts: &mut Vec<Left>, left: &Option<Left>) -> Result<(), Oom>
     }
 }
 
-/// Adds the row that a line leaves, if it leaves one.
+/// Appends to `lefts` the row that a line leaves when applied to `rows`, marked as new unless it
+/// equals the row that was there; nothing if the line leaves none. `t` is the issue minute, and
+/// `Err` is out of memory.
 fn add_left(lefts: &mut Vec<Left>, rows: &BoardRows, line: &Line, t: Minute) -> Result<(), Oom>
     ensures { OnOk result (lefts.new.items ≡ lefts.old.items ++ left_by rows.now.rows t line.now) }
 {
@@ -130,7 +139,13 @@ fn add_left(lefts: &mut Vec<Left>, rows: &BoardRows, line: &Line, t: Minute) -> 
     add_if(lefts, &left)
 }
 
-/// Returns the rows that lines leave, each of which meets the rows before all of them.
+/// Returns the rows that the lines leave, in the order of the lines, each marked as new or changed,
+/// or not. Each line is applied to `rows` as they were before all lines, and ROU lines and those
+/// that their row does not allow leave none; `t` is the issue minute.
+///
+/// # Errors
+///
+/// Out of memory.
 pub fn lefts(alloc: Global, rows: &BoardRows, lines: &[Line], t: Minute) -> Result<Vec<Left>, Oom>
     ensures { IfOk result (λ some. some.items ≡ lefts rows.now.rows t lines.now) }
 {
@@ -141,13 +156,15 @@ pub fn lefts(alloc: Global, rows: &BoardRows, lines: &[Line], t: Minute) -> Resu
     Ok(some)
 }
 
-/// Puts a row, if there is one.
-fn put_if(rows: &mut Vec<Row>, row: &Option<Row>) -> Result<(), Oom>
+/// Inserts `row` into `rows`, which are in order by zone, then event, or replaces the one with its
+/// zone and event; does nothing if `row` is `None`. `Err` is out of memory, which comes only if the
+/// rows outgrow their capacity.
+fn add_row_if_some(rows: &mut Vec<Row>, row: &Option<Row>) -> Result<(), Oom>
     requires { IsStrictlySortedBy by_key rows.old.items }
-    ensures ok { OnOk result (rows.new.items ≡ put_if row.now rows.old.items) }
+    ensures ok { OnOk result (rows.new.items ≡ add_row_if_some row.now rows.old.items) }
     ensures order { OnOk result (IsStrictlySortedBy by_key rows.new.items) }
     ensures capacity { vec_capacity rows.old ≤ vec_capacity rows.new }
-    ensures err { OnErr result (vec_capacity rows.old < length (put_if row.now rows.old.items)) }
+    ensures err { OnErr result (vec_capacity rows.old < length (add_row_if_some row.now rows.old.items)) }
 {
     match row {
         Some(row) => put(rows, row),
@@ -155,10 +172,11 @@ fn put_if(rows: &mut Vec<Row>, row: &Option<Row>) -> Result<(), Oom>
     }
 }
 
-/// Puts a row on the board, if there is one.
-fn shelve_if(rows: &mut BoardRows, row: &Option<Row>)
-    requires { length (put_if row.now rows.old.rows) ≤ rows.old.spare + length rows.old.rows }
-    ensures rows { rows.new.rows ≡ put_if row.now rows.old.rows }
+/// Inserts `row` on the board, or replaces the one with its zone and event; does nothing if `row`
+/// is `None`. `BoardRows::reserve` must have taken memory for it.
+fn set_board_row_if_some(rows: &mut BoardRows, row: &Option<Row>)
+    requires { length (add_row_if_some row.now rows.old.rows) ≤ rows.old.spare + length rows.old.rows }
+    ensures rows { rows.new.rows ≡ add_row_if_some row.now rows.old.rows }
     ensures spare { rows.old.spare + length rows.old.rows ≤ rows.new.spare + length rows.new.rows }
 {
     match row {
@@ -167,9 +185,12 @@ fn shelve_if(rows: &mut BoardRows, row: &Option<Row>)
     }
 }
 
-/// Puts the row that a line leaves of the life that it meets, with its spot and its period. A row
-/// that is as before is not put again, and one in place of another has its spot already.
-fn bring_line(
+/// Applies a line with issue minute `t` to the rows of a board, to `spots` (the event and zone of
+/// each row, by event) and to `periods` (the periods of unended rows by event, each with their
+/// count). A ROU line, or one that the row of its event and zone does not allow, changes nothing.
+/// It takes no memory: in all three there must be room for as many entries as there are rows
+/// afterwards.
+fn apply_line_to_rows(
     rows: &mut BoardRows,
     spots: &mut Vec<Spot>,
     periods: &mut Vec<PeriodCount>,
@@ -179,13 +200,13 @@ fn bring_line(
     requires order { IsStrictlySortedBy by_key rows.old.rows }
     requires spots { AreSpots rows.old.rows spots.old.items }
     requires periods { AreCounted rows.old.rows periods.old.items }
-    requires room { length (put_if (row_left rows.old.rows t line.now) rows.old.rows)
+    requires room { length (add_row_if_some (row_left rows.old.rows t line.now) rows.old.rows)
         ≤ rows.old.spare + length rows.old.rows }
-    requires places { length (put_if (row_left rows.old.rows t line.now) rows.old.rows)
+    requires places { length (add_row_if_some (row_left rows.old.rows t line.now) rows.old.rows)
         ≤ vec_capacity spots.old }
-    requires counts { length (put_if (row_left rows.old.rows t line.now) rows.old.rows)
+    requires counts { length (add_row_if_some (row_left rows.old.rows t line.now) rows.old.rows)
         ≤ vec_capacity periods.old }
-    ensures rows { rows.new.rows ≡ put_if (row_left rows.old.rows t line.now) rows.old.rows }
+    ensures rows { rows.new.rows ≡ add_row_if_some (row_left rows.old.rows t line.now) rows.old.rows }
     ensures spots { AreSpots rows.new.rows spots.new.items }
     ensures periods { AreCounted rows.new.rows periods.new.items }
     ensures spare { rows.old.spare + length rows.old.rows ≤ rows.new.spare + length rows.new.rows }
@@ -197,20 +218,23 @@ fn bring_line(
     if stays(&old, &row) {
         return;
     }
-    count_if(periods, &old, &row);
-    shelve_if(rows, &row);
+    update_counts_if_put(periods, &old, &row);
+    set_board_row_if_some(rows, &row);
     if old.is_some() {
         return;
     }
-    match put_spot_if(spots, &row) {
+    match add_spot_if(spots, &row) {
         Ok(()) => {}
         Err(_) => unreachable!(),
     }
 }
 
-/// Puts the rows that lines leave, with their spots and periods. Each line meets the rows that the
-/// lines before it left.
-pub fn bring_lines(
+/// Applies lines one after another to the rows of a board, to `spots` (the event and zone of each
+/// row, by event) and to `periods` (the periods of unended rows by event, each with their count).
+/// Each line is applied to the rows that the lines before it left; `t` is the issue minute. It
+/// takes no memory: in all three there must be room for as many entries as there are rows
+/// afterwards.
+pub fn apply_lines_to_rows(
     rows: &mut BoardRows,
     spots: &mut Vec<Spot>,
     periods: &mut Vec<PeriodCount>,
@@ -232,12 +256,17 @@ pub fn bring_lines(
     ensures counts { vec_capacity periods.old ≤ vec_capacity periods.new }
 {
     for line in lines {
-        bring_line(rows, spots, periods, line, t);
+        apply_line_to_rows(rows, spots, periods, line, t);
     }
 }
 
-/// Returns rows, by zone, then event, among which are all that are live at `t` after the lines.
-/// Each line meets the rows before all of them.
+/// Returns rows, by zone, then event, among which are all that are live at `t`, the issue minute,
+/// once the lines are applied. Each line is applied to the row that its event and zone have in
+/// `rows`, before all lines; one that this row does not allow changes nothing.
+///
+/// # Errors
+///
+/// Out of memory.
 pub fn rows_taken(
     alloc: Global,
     rows: &BoardRows,
@@ -252,12 +281,12 @@ pub fn rows_taken(
     let mut after = rows.shown(alloc, t)?;
     for line in lines {
         let row = row_left(rows, line, t);
-        put_if(&mut after, &row)?;
+        add_row_if_some(&mut after, &row)?;
     }
     Ok(after)
 }
 
-/// Returns a copy of the rows with capacity for `more` others.
+/// Returns a copy of the rows with capacity for `more` rows beyond them. `Err` is out of memory.
 fn with_room(alloc: Global, rows: &[Row], more: usize) -> Result<Vec<Row>, Oom>
     ensures { IfOk result (λ copy. copy.items ≡ rows.now) }
 {
@@ -266,8 +295,13 @@ fn with_room(alloc: Global, rows: &[Row], more: usize) -> Result<Vec<Row>, Oom>
     Ok(copy)
 }
 
-/// Returns rows of a zone, by event, among which are all that are live at `t` after the rows of
-/// `left` are put.
+/// Returns rows of zone `z`, by event, among which are all of the zone that are live at `t` once
+/// `left` is put into `rows`. `left` has the rows that the lines of zone `z` leave, in the order of
+/// the lines; each is inserted, or replaces the row of its event.
+///
+/// # Errors
+///
+/// Out of memory.
 pub fn zone_rows_after_lines(
     alloc: Global,
     rows: &BoardRows,

@@ -1,18 +1,17 @@
 //! The events of a hazard that have an unended row, and which of a number is open.
 ghost use Rattle.std.specs.Prelude.{◌≡◌, ◌≤◌, length};
-ghost use Rattle.std.specs.List.{AllByRecursion, prefix_len};
+ghost use Rattle.std.specs.List.{prefix_len};
 ghost use Rattle.std.specs.List.Sorted.{IsStrictlySortedBy};
 ghost use Rattle.std.specs.Ordering.{is_lt, is_le, nat_cmp};
 ghost use Rattle.hazard_types.specs.Orders.{by_hazard};
 ghost use Rattle.event_life.specs.Products.{later_event};
-ghost use Rattle.hazard_board.specs.declared.standing.Standing.{Standing as AnyStanding};
 ghost use Rattle.hazard_board.specs.Standing.{by_standing, by_number, of_hazard, of_number, last_open};
 
 use crate::standing::Standing;
 use event_life::is_not_long_past;
 use hazard_types::{Event, Hazard, Minute};
 
-/// Returns how many of the events are of hazards before `h`.
+/// Returns how many of the events, which are in order by hazard, are of hazards before `h`.
 fn hazards_before(standing: &[Standing], h: &Hazard) -> usize
     requires { IsStrictlySortedBy by_standing standing.now }
     ensures value { result ≡ prefix_len (λ s. is_lt (by_hazard s.event.hazard h.now)) standing.now }
@@ -25,7 +24,8 @@ fn hazards_before(standing: &[Standing], h: &Hazard) -> usize
     )
 }
 
-/// Returns how many of the events are of `h` or of hazards before it.
+/// Returns how many of the events, which are in order by hazard, are of `h` or of hazards before
+/// it.
 fn hazards_through(standing: &[Standing], h: &Hazard) -> usize
     requires { IsStrictlySortedBy by_standing standing.now }
     ensures value { result ≡ prefix_len (λ s. is_le (by_hazard s.event.hazard h.now)) standing.now }
@@ -38,7 +38,8 @@ fn hazards_through(standing: &[Standing], h: &Hazard) -> usize
     )
 }
 
-/// Returns the events of a hazard, by number, then year.
+/// Returns those of the events that are of hazard `h`, by number, then year; empty if there are
+/// none. `standing` is in order by hazard, number and year.
 pub fn of_hazard<'a>(standing: &'a [Standing], h: &Hazard) -> &'a [Standing]
     requires { IsStrictlySortedBy by_standing standing.now }
     ensures events { result.now ≡ of_hazard h.now standing.now }
@@ -50,7 +51,8 @@ pub fn of_hazard<'a>(standing: &'a [Standing], h: &Hazard) -> &'a [Standing]
     &rest[..count]
 }
 
-/// Returns how many of a hazard's events have numbers before `etn`.
+/// Returns how many of the events have a number less than `etn`. `standing` has events of one
+/// hazard, in order by number, then year.
 fn numbers_before(standing: &[Standing], etn: u16) -> usize
     requires { IsStrictlySortedBy by_number standing.now }
     ensures value { result ≡ prefix_len (λ s. is_lt (nat_cmp s.event.etn etn)) standing.now }
@@ -63,7 +65,8 @@ fn numbers_before(standing: &[Standing], etn: u16) -> usize
     )
 }
 
-/// Returns how many of a hazard's events have the number `etn` or one before it.
+/// Returns how many of the events have the number `etn` or a lesser one. `standing` has events of
+/// one hazard, in order by number, then year.
 fn numbers_through(standing: &[Standing], etn: u16) -> usize
     requires { IsStrictlySortedBy by_number standing.now }
     ensures value { result ≡ prefix_len (λ s. is_le (nat_cmp s.event.etn etn)) standing.now }
@@ -76,7 +79,8 @@ fn numbers_through(standing: &[Standing], etn: u16) -> usize
     )
 }
 
-/// Returns the events with a number among those of a hazard.
+/// Returns the events with number `etn`, by year; empty if there are none. `standing` has events of
+/// one hazard, in order by number, then year.
 fn of_number(standing: &[Standing], etn: u16) -> &[Standing]
     requires { IsStrictlySortedBy by_number standing.now }
     ensures { result.now ≡ of_number etn standing.now }
@@ -87,7 +91,7 @@ fn of_number(standing: &[Standing], etn: u16) -> &[Standing]
     &rest[..count]
 }
 
-/// Returns the event of the later year; `best` if the years are equal.
+/// Returns the event of the later year: `best` if the years are equal, `event` if `best` is `None`.
 fn later_event(best: &Option<Event>, event: &Event) -> Option<Event>
     ensures { result ≡ later_event best.now event.now }
 {
@@ -103,8 +107,9 @@ fn later_event(best: &Option<Event>, event: &Event) -> Option<Event>
     }
 }
 
-/// Returns the event of the greatest year among those with an end that is at most half an hour
-/// before `t`, or later.
+/// Returns the event of the greatest year among those that are open at `t` (the first listed if
+/// several have this year), or `None` if none is open. An event is open if its latest end is not
+/// more than half an hour before `t`.
 fn last_open(standing: &[Standing], t: Minute) -> Option<Event>
     ensures { result ≡ last_open t standing.now }
 {
@@ -117,8 +122,9 @@ fn last_open(standing: &[Standing], t: Minute) -> Option<Event>
     best
 }
 
-/// Returns the open event of a hazard and number, the one of the greatest year if there are
-/// several.
+/// Returns the event with hazard `h` and number `etn` that is open at `t` (its latest end is not
+/// more than half an hour before `t`), or `None` if there is none. If there are several it is the
+/// one of the greatest year. `standing` is in order by hazard, number and year.
 pub fn open_event(standing: &[Standing], h: &Hazard, etn: u16, t: Minute) -> Option<Event>
     requires { IsStrictlySortedBy by_standing standing.now }
     ensures { result ≡ last_open t (of_number etn (of_hazard h.now standing.now)) }

@@ -22,7 +22,7 @@ pub struct PeriodCount {
     pub rows: usize,
 }
 
-/// Compares two ends, a later one first. Until further notice is the latest.
+/// Returns how two ends compare, where a later one is `Less`. Until further notice is the latest.
 fn later_first(a: &End, b: &End) -> Ordering
     ensures { result ≡ later_first a.now b.now }
 {
@@ -38,7 +38,7 @@ fn later_first(a: &End, b: &End) -> Ordering
     }
 }
 
-/// Compares two counts by event, then end, a later one first.
+/// Returns how two counts compare by event (year, number, hazard), then by end, a later one first.
 fn order_of_ends(a: &PeriodCount, b: &PeriodCount) -> Ordering
     ensures { result ≡ by_event_end a.now b.now }
 {
@@ -49,7 +49,7 @@ fn order_of_ends(a: &PeriodCount, b: &PeriodCount) -> Ordering
     }
 }
 
-/// Compares two periods of one event by end, a later one first, then by begin.
+/// Returns how two periods compare by end, a later one first, then by begin, an earlier one first.
 fn order_in_event(a: &Period, b: &Period) -> Ordering
     ensures { result
         ≡ ordering_then (later_first a.now.end b.now.end) (nat_cmp a.now.begin b.now.begin) }
@@ -61,7 +61,8 @@ fn order_in_event(a: &Period, b: &Period) -> Ordering
     }
 }
 
-/// Compares two counts by event, then end, a later one first, then begin.
+/// Returns how two counts compare by event (year, number, hazard), then end, a later one first,
+/// then begin.
 fn order(a: &PeriodCount, b: &PeriodCount) -> Ordering
     ensures { result ≡ by_period a.now b.now }
 {
@@ -72,7 +73,9 @@ fn order(a: &PeriodCount, b: &PeriodCount) -> Ordering
     }
 }
 
-/// Returns how many of the counts come before `key`.
+/// Returns how many of the counts come before the event and period of `key`, whose `rows` is not
+/// read. `periods` is in order by event (year, number, hazard), then end, a later one first, then
+/// begin.
 fn counts_below(periods: &[PeriodCount], key: &PeriodCount) -> usize
     requires { IsStrictlySortedBy by_period periods.now }
     ensures value { result ≡ prefix_len (λ x. is_lt (by_period x key.now)) periods.now }
@@ -85,8 +88,9 @@ fn counts_below(periods: &[PeriodCount], key: &PeriodCount) -> usize
     )
 }
 
-/// Returns the index of the count of this event and period, or as `Err` the index at which it
-/// belongs.
+/// Returns the index of the count with the event and period of `key`, or as `Err` the index at
+/// which to insert one. `periods` is in order by event (year, number, hazard), then end, a later
+/// one first, then begin; the `rows` of `key` is not read.
 fn place_of(periods: &[PeriodCount], key: &PeriodCount) -> Result<usize, usize>
     requires { IsStrictlySortedBy by_period periods.now }
     ensures found { IfOk result (IsCountAt key.now periods.now) }
@@ -104,7 +108,9 @@ fn place_of(periods: &[PeriodCount], key: &PeriodCount) -> Result<usize, usize>
     }
 }
 
-/// Counts one more row of a period of an event.
+/// Adds one to the count of rows with this event and period, or inserts a count of one. `periods`
+/// is in order by event (year, number, hazard), then end, a later one first, then begin, and its
+/// capacity must exceed the number of rows that are counted in all.
 fn add(periods: &mut Vec<PeriodCount>, event: &Event, period: &Period)
     requires stand { AreInOrder periods.old.items }
     requires room { counted any_period periods.old.items < vec_capacity periods.old }
@@ -136,7 +142,9 @@ fn add(periods: &mut Vec<PeriodCount>, event: &Event, period: &Period)
     }
 }
 
-/// Counts one row less of a period of an event.
+/// Subtracts one from the count of rows with this event and period, and removes the entry if none
+/// are left. The entry must be there, and `periods` in order by event (year, number, hazard), then
+/// end, a later one first, then begin.
 fn take_off(periods: &mut Vec<PeriodCount>, event: &Event, period: &Period)
     requires stand { AreInOrder periods.old.items }
     requires some { (q : AnyEvent → AnyPeriod → Bool) →
@@ -169,7 +177,8 @@ fn take_off(periods: &mut Vec<PeriodCount>, event: &Event, period: &Period)
     }
 }
 
-/// Counts one row less, if there is a row and it is unended.
+/// Subtracts one from the count of rows with the event and period of `row`, which must be counted;
+/// does nothing if `row` is `None` or ended.
 fn take_off_if(periods: &mut Vec<PeriodCount>, row: &Option<Row>)
     requires stand { AreInOrder periods.old.items }
     requires some { (q : AnyEvent → AnyPeriod → Bool) →
@@ -189,7 +198,9 @@ fn take_off_if(periods: &mut Vec<PeriodCount>, row: &Option<Row>)
     }
 }
 
-/// Counts a row, if it is unended.
+/// Adds one to the count of rows with the event and period of `row`; does nothing if the row is
+/// ended. The capacity of `periods` must be at least the number of rows that are then counted in
+/// all.
 fn add_if(periods: &mut Vec<PeriodCount>, row: &Row)
     requires stand { AreInOrder periods.old.items }
     requires room { counted any_period periods.old.items + one_of any_period row.now
@@ -204,7 +215,8 @@ fn add_if(periods: &mut Vec<PeriodCount>, row: &Row)
     }
 }
 
-/// Whether both rows are unended and of one event and period, so that no count changes.
+/// Whether `old` is a row and both rows are unended and of one event and period, so that no count
+/// changes as `row` replaces `old`.
 fn count_alike(old: &Option<Row>, row: &Row) -> bool
     ensures { result ≡ count_alike old.now row.now }
 {
@@ -216,8 +228,10 @@ fn count_alike(old: &Option<Row>, row: &Row) -> bool
     }
 }
 
-/// Corrects the counts for a row that is put in place of `old`.
-fn count_put(periods: &mut Vec<PeriodCount>, old: &Option<Row>, row: &Row)
+/// Updates the counts of unended rows as `row` replaces `old`, or is added if `old` is `None`.
+/// `old` must be counted if it is unended, and the capacity must be at least the number of rows
+/// that are then counted in all.
+fn update_counts_for_put(periods: &mut Vec<PeriodCount>, old: &Option<Row>, row: &Row)
     requires stand { AreInOrder periods.old.items }
     requires some { (q : AnyEvent → AnyPeriod → Bool) →
         one_if q old.now ≤ counted q periods.old.items }
@@ -236,8 +250,10 @@ fn count_put(periods: &mut Vec<PeriodCount>, old: &Option<Row>, row: &Row)
     add_if(periods, row);
 }
 
-/// Corrects the counts for a row that is put in place of `old`, if a row is put.
-pub fn count_if(periods: &mut Vec<PeriodCount>, old: &Option<Row>, row: &Option<Row>)
+/// Updates the counts of unended rows as `row` replaces `old`, or is added if `old` is `None`; does
+/// nothing if `row` is `None`. `old` must be counted if it is unended, and the capacity must be at
+/// least the number of rows that are then counted in all.
+pub fn update_counts_if_put(periods: &mut Vec<PeriodCount>, old: &Option<Row>, row: &Option<Row>)
     requires stand { AreInOrder periods.old.items }
     requires some { (q : AnyEvent → AnyPeriod → Bool) →
         one_if q old.now ≤ counted q periods.old.items }
@@ -248,12 +264,13 @@ pub fn count_if(periods: &mut Vec<PeriodCount>, old: &Option<Row>, row: &Option<
     ensures capacity { vec_capacity periods.old ≤ vec_capacity periods.new }
 {
     match row {
-        Some(row) => count_put(periods, old, row),
+        Some(row) => update_counts_for_put(periods, old, row),
         None => {}
     }
 }
 
-/// Returns how many of the counts are of events before `e`.
+/// Returns how many of the counts are of events that come before `e` by year, number and hazard.
+/// `periods` is in order by event (year, number, hazard), then end, a later one first, then begin.
 fn events_before(periods: &[PeriodCount], e: &Event) -> usize
     requires { IsStrictlySortedBy by_period periods.now }
     ensures value { result ≡ prefix_len (λ x. is_lt (by_year x.event e.now)) periods.now }
@@ -266,7 +283,9 @@ fn events_before(periods: &[PeriodCount], e: &Event) -> usize
     )
 }
 
-/// Returns the latest end of an event's unended rows: its first count has it.
+/// Returns the latest end of an event's unended rows, or `None` if it has no unended row. `periods`
+/// is in order by event (year, number, hazard), then end, a later one first, so this is the end of
+/// the event's first count.
 pub fn latest_in(periods: &[PeriodCount], e: &Event) -> Option<End>
     requires { IsStrictlySortedBy by_period periods.now }
     ensures { result ≡ latest_in periods.now e.now }
@@ -283,8 +302,10 @@ pub fn latest_in(periods: &[PeriodCount], e: &Event) -> Option<End>
     }
 }
 
-/// Returns how many of the counts are of events before that of `key`, or of its event and later
-/// ends.
+/// Returns how many of the counts come before those with the event and end of `key`: those of
+/// earlier events, and those of the same event with later ends. `periods` is in order by event
+/// (year, number, hazard), then end, a later one first, then begin; the begin and `rows` of `key`
+/// are not read.
 fn ends_before(periods: &[PeriodCount], key: &PeriodCount) -> usize
     requires { IsStrictlySortedBy by_period periods.now }
     ensures value { result ≡ prefix_len (λ x. is_lt (by_event_end x key.now)) periods.now }
@@ -297,8 +318,9 @@ fn ends_before(periods: &[PeriodCount], key: &PeriodCount) -> usize
     )
 }
 
-/// Whether a period with the event and end of `key` begins at `t` or before: the first of them does
-/// if one does.
+/// Whether one of the counts has the event and end of `key` and a begin at `t` or before. `periods`
+/// is in order by event (year, number, hazard), then end, a later one first, then begin, an earlier
+/// one first, so only the first count with that event and end is read.
 fn has_begun(periods: &[PeriodCount], key: &PeriodCount, t: Minute) -> bool
     requires { IsStrictlySortedBy by_period periods.now }
     ensures { result ≡ begun_in periods.now key.now t }
@@ -311,8 +333,9 @@ fn has_begun(periods: &[PeriodCount], key: &PeriodCount, t: Minute) -> bool
     order_of_ends(found, key).is_eq() && found.period.begin.get() <= t.get()
 }
 
-/// Whether a row of an event that is live at `t` has this period. Begins at `t` or before count as
-/// equal.
+/// Whether event `e` has an unended row that ends after `t` and has the period `p`. Two begins that
+/// are both at `t` or before count as equal. `periods` is in order by event (year, number, hazard),
+/// then end, a later one first, then begin.
 pub fn has_period(periods: &[PeriodCount], t: Minute, e: &Event, p: &Period) -> bool
     requires { AreInOrder periods.now }
     ensures { result ≡ same_in periods.now e.now p.now t }

@@ -51,7 +51,8 @@ impl Model for Shelves {
     ghost invariant = { λ s. AreShelved s.first.items s.later.items };
 }
 
-/// Returns how many of the shelves start with `z` or with zones before it.
+/// Returns how many of the shelves, which are in the order of zones, start with `z` or with a zone
+/// before it.
 fn shelves_through(later: &[Shelf], z: &Zone) -> usize
     requires { IsStrictlySortedBy by_from later.now }
     ensures value { result ≡ through z.now later.now }
@@ -64,8 +65,9 @@ fn shelves_through(later: &[Shelf], z: &Zone) -> usize
     )
 }
 
-/// Puts a row among rows that have room for it.
-fn put_within(rows: &mut Vec<Row>, row: &Row)
+/// Inserts a row into `rows`, which are in order by zone, then event, or replaces the one with its
+/// zone and event. The capacity of `rows` must be enough for it, so no memory is taken.
+fn add_within(rows: &mut Vec<Row>, row: &Row)
     requires order { IsStrictlySortedBy by_key rows.old.items }
     requires room { length (put row.now rows.old.items) ≤ vec_capacity rows.old }
     ensures rows { rows.new.items ≡ put row.now rows.old.items }
@@ -77,24 +79,25 @@ fn put_within(rows: &mut Vec<Row>, row: &Row)
     }
 }
 
-/// Puts a row among rows if they have room for it, and returns whether they have. If not, nothing
-/// changes.
-fn put_if_fits(rows: &mut Vec<Row>, row: &Row) -> bool
+/// Inserts a row into `rows`, which are in order by zone, then event, or replaces the one with its
+/// zone and event, if that takes no memory, and returns whether it did. If not, nothing changes.
+fn add_if_fits(rows: &mut Vec<Row>, row: &Row) -> bool
     requires { IsStrictlySortedBy by_key rows.old.items }
     ensures rows { rows.new.items
         ≡ (if result then put row.now rows.old.items else rows.old.items) }
     ensures capacity { vec_capacity rows.old ≤ vec_capacity rows.new }
 {
     if rows.len() < rows.capacity() || row_at(rows, &row.event, &row.zone).is_some() {
-        put_within(rows, row);
+        add_within(rows, row);
         true
     } else {
         false
     }
 }
 
-/// Returns an index at which a zone starts in the middle of long rows: the start of the middle
-/// row's zone, or of the next. `None` if the rows are not long or are all of one zone.
+/// Returns the index at which to split rows, or `None` if they are at most 64 or all of one zone.
+/// At this index a zone starts: the zone of the middle row, or the next one if that zone starts at
+/// index 0. The rows are in order by zone, then event.
 fn cut_of(rows: &[Row]) -> Option<usize>
     requires { IsStrictlySortedBy by_key rows.now }
     ensures { IfSome result (IsCut rows.now) }
@@ -114,7 +117,7 @@ fn cut_of(rows: &[Row]) -> Option<usize>
     None
 }
 
-/// Returns the rows from an index on as a shelf of their own, with capacity for `n` more.
+/// Returns the rows from index `at` on as a shelf of their own, with capacity for `n` more rows.
 fn shelf_from(alloc: Global, rows: &[Row], at: usize, n: usize) -> Result<Shelf, Oom>
     requires { at < length rows.now }
     ensures rows { IfOk result (λ shelf. shelf.rows.items ≡ drop at rows.now) }
@@ -127,7 +130,9 @@ fn shelf_from(alloc: Global, rows: &[Row], at: usize, n: usize) -> Result<Shelf,
     Ok(Shelf { from, rows: back })
 }
 
-/// Splits a shelf in two at an index of its rows. The second part has capacity for `n` more rows.
+/// Splits the shelf at index `place` of `later` in two at index `at` of its rows, where a zone
+/// starts. The second part is inserted behind it, with capacity for `n` more rows. `Err` is out of
+/// memory; no row is lost.
 fn split_shelf_at(later: &mut Vec<Shelf>, place: usize, at: usize, n: usize) -> Result<(), Oom>
     requires place { place < vec_len later.old }
     requires order { IsStrictlySortedBy by_key (on_shelves later.old.items) }
@@ -146,7 +151,8 @@ fn split_shelf_at(later: &mut Vec<Shelf>, place: usize, at: usize, n: usize) -> 
     Ok(())
 }
 
-/// Splits a long shelf in two. The second part has capacity for `n` more rows.
+/// Splits the shelf at index `place` in two if it has more than 64 rows and not all are of one
+/// zone. The second part has capacity for `n` more rows.
 fn split_shelf(later: &mut Vec<Shelf>, place: usize, n: usize) -> Result<(), Oom>
     requires place { place < vec_len later.old }
     requires order { IsStrictlySortedBy by_key (on_shelves later.old.items) }
@@ -162,7 +168,8 @@ fn split_shelf(later: &mut Vec<Shelf>, place: usize, n: usize) -> Result<(), Oom
     }
 }
 
-/// Takes memory for `n` more rows on each of the shelves, from the last on, and splits long ones.
+/// Reserves capacity for `n` more rows on each of the shelves, and splits those of more than 64
+/// rows. It goes from the last shelf to the first.
 fn reserve_shelves(later: &mut Vec<Shelf>, n: usize) -> Result<(), Oom>
     requires { IsStrictlySortedBy by_key (on_shelves later.old.items) }
     ensures kept { AreKept n later.old.items later.new.items }
@@ -176,8 +183,8 @@ fn reserve_shelves(later: &mut Vec<Shelf>, n: usize) -> Result<(), Oom>
     Ok(())
 }
 
-/// Splits the rows before the shelves in two, if they are long. The second part is a shelf with
-/// capacity for `n` more rows.
+/// Splits the rows of the first shelf in two if they are more than 64 and not all of one zone. The
+/// second part becomes the first of `later`, with capacity for `n` more rows.
 fn split_first_shelf(first: &mut Vec<Row>, later: &mut Vec<Shelf>, n: usize) -> Result<(), Oom>
     requires { AreShelved first.old.items later.old.items }
     ensures rows { HoldSame first.old.items later.old.items first.new.items later.new.items }
@@ -195,7 +202,8 @@ fn split_first_shelf(first: &mut Vec<Row>, later: &mut Vec<Shelf>, n: usize) -> 
     Ok(())
 }
 
-/// Takes memory for `n` more rows on each shelf, the first rows among them, and splits long ones.
+/// Reserves capacity for `n` more rows on each shelf, `first` among them, and splits those of more
+/// than 64 rows.
 fn reserve_each(first: &mut Vec<Row>, later: &mut Vec<Shelf>, n: usize) -> Result<(), Oom>
     requires { AreShelved first.old.items later.old.items }
     ensures rows { HoldSame first.old.items later.old.items first.new.items later.new.items }
@@ -212,7 +220,11 @@ fn reserve_each(first: &mut Vec<Row>, later: &mut Vec<Shelf>, n: usize) -> Resul
     Ok(())
 }
 
-/// Returns those of the rows that are live at `t`.
+/// Returns those of the rows that are live at `t` (unended, with an end after `t`), in their order.
+///
+/// # Errors
+///
+/// Out of memory.
 pub fn live(alloc: Global, rows: &[Row], t: Minute) -> Result<Vec<Row>, AllocError>
     ensures { IfOk result (λ live. live.items ≡ shown_at t rows.now) }
 {
@@ -223,7 +235,7 @@ pub fn live(alloc: Global, rows: &[Row], t: Minute) -> Result<Vec<Row>, AllocErr
 }
 
 impl Shelves {
-    /// Empty, without capacity.
+    /// Returns shelves without a row, without capacity.
     pub fn new(alloc: Global) -> Self
         ensures { result.rows ≡ [] }
     {
@@ -233,7 +245,8 @@ impl Shelves {
         }
     }
 
-    /// Returns the rows on one shelf.
+    /// Returns shelves with these rows, which are in order by zone, then event; all are on the
+    /// first shelf.
     pub fn from_rows(rows: Vec<Row>) -> Self
         requires { IsStrictlySortedBy by_key rows.items }
         ensures { result.rows ≡ rows.items }
@@ -250,7 +263,8 @@ impl Shelves {
         *self.first.allocator()
     }
 
-    /// Returns for how many more rows there is memory, in whatever zones.
+    /// Returns for how many more rows there is memory whatever their zones are: the least spare
+    /// capacity of a shelf.
     fn spare(&self) -> usize
         ensures { result ≡ self.now.spare }
     {
@@ -263,6 +277,10 @@ impl Shelves {
 
     /// Takes memory for `n` more rows, in whatever zones. Long shelves are split if memory has to
     /// be taken.
+    ///
+    /// # Errors
+    ///
+    /// Out of memory.
     pub fn reserve(&mut self, n: usize) -> Result<(), Oom>
         ensures rows { self.new.rows ≡ self.old.rows }
         ensures spare { self.old.spare ≤ self.new.spare }
@@ -275,7 +293,8 @@ impl Shelves {
         reserve_each(&mut self.first, &mut self.later, n)
     }
 
-    /// Returns the rows of the shelf that has a zone's rows.
+    /// Returns the rows of the shelf on which the rows of zone `z` are, or would be if it had some,
+    /// by zone, then event. Rows of other zones may be among them.
     fn shelf(&self, z: &Zone) -> &[Row]
         ensures rows { slice_of z.now result.now ≡ slice_of z.now self.now.rows }
         ensures order { IsStrictlySortedBy by_key result.now }
@@ -296,15 +315,15 @@ impl Shelves {
         slice_of(self.shelf(z), z)
     }
 
-    /// Returns the row of an event in a zone.
+    /// Returns the row of an event in a zone, or `None` if there is none.
     pub fn row_at(&self, e: &Event, z: &Zone) -> Option<Row>
         ensures { result ≡ row_at self.now.rows e.now z.now }
     {
         row_at(self.shelf(z), e, z)
     }
 
-    /// Puts a row, in place of the one with its zone and event if there is one. Only rows of its
-    /// shelf move.
+    /// Inserts a row in the order by zone, then event, or replaces the one with its zone and event.
+    /// `reserve` must have taken memory for it; only rows of the same shelf move.
     pub fn put(&mut self, row: &Row)
         requires { length (put row.now self.old.rows) ≤ self.old.spare + length self.old.rows }
         ensures rows { self.new.rows ≡ put row.now self.old.rows }
@@ -313,28 +332,32 @@ impl Shelves {
     {
         let place = shelves_through(&self.later, &row.zone);
         if place == 0 {
-            put_within(&mut self.first, row);
+            add_within(&mut self.first, row);
         } else {
             let shelf = &mut self.later[place - 1];
-            put_within(&mut shelf.rows, row);
+            add_within(&mut shelf.rows, row);
         }
     }
 
-    /// Puts a row as `put` does if its shelf has room for it, and returns whether it has. If not,
-    /// nothing changes.
-    pub fn put_if_room(&mut self, row: &Row) -> bool
+    /// Inserts a row in order, or replaces the one with its zone and event, if its shelf has room
+    /// for it, and returns whether it did. If not, nothing changes.
+    pub fn add_if_room(&mut self, row: &Row) -> bool
         ensures { self.new.rows ≡ (if result then put row.now self.old.rows else self.old.rows) }
     {
         let place = shelves_through(&self.later, &row.zone);
         if place == 0 {
-            put_if_fits(&mut self.first, row)
+            add_if_fits(&mut self.first, row)
         } else {
             let shelf = &mut self.later[place - 1];
-            put_if_fits(&mut shelf.rows, row)
+            add_if_fits(&mut shelf.rows, row)
         }
     }
 
-    /// Returns the rows that are live at `t`, by zone, then event.
+    /// Returns the rows that are live at `t` (unended, with an end after `t`), by zone, then event.
+    ///
+    /// # Errors
+    ///
+    /// Out of memory.
     pub fn shown(&self, alloc: Global, t: Minute) -> Result<Vec<Row>, Oom>
         ensures { IfOk result (λ shown. shown.items ≡ shown_at t self.now.rows) }
     {

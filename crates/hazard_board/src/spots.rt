@@ -1,6 +1,6 @@
 //! The event and zone of each row in order by event, so that the rows of one event are found
 //! without the others.
-ghost use Rattle.std.specs.Prelude.{◌≡◌, ◌≤◌, ◌<◌, length, filter, find, IfOk, OnOk, OnErr};
+ghost use Rattle.std.specs.Prelude.{◌≡◌, ◌≤◌, ◌<◌, length, find, OnOk, OnErr};
 ghost use Rattle.std.specs.List.{prefix_len};
 ghost use Rattle.std.specs.List.Sorted.{IsStrictlySortedBy};
 ghost use Rattle.std.specs.Ordering.{is_lt, is_le};
@@ -8,7 +8,7 @@ ghost use Rattle.std.specs.Vec.{vec_capacity};
 ghost use Rattle.hazard_types.specs.Same.{same_event};
 ghost use Rattle.event_life.specs.Products.{by_key};
 ghost use Rattle.event_life.specs.Seats.{IsSeat, seated};
-ghost use Rattle.hazard_board.specs.Spots.{by_year, by_spot, spots_of, put_spot, put_spot_if, first_of, rows_on, AreSpots};
+ghost use Rattle.hazard_board.specs.Spots.{by_year, by_spot, spots_of, put_spot, add_spot_if, first_of, rows_on, AreSpots};
 
 use crate::board_rows::BoardRows;
 use crate::searches::then_by_event;
@@ -22,21 +22,22 @@ pub struct Spot {
     pub zone: Zone,
 }
 
-/// Compares two events by year, then number, then hazard.
+/// Returns how two events compare by year, then number, then hazard.
 pub fn order_by_year(a: &Event, b: &Event) -> Ordering
     ensures { result ≡ by_year a.now b.now }
 {
     then_by_event(a.year.cmp(&b.year).then(a.etn.cmp(&b.etn)), a, b)
 }
 
-/// Compares two spots by event, then zone.
+/// Returns how two spots compare by event (year, number, hazard), then zone.
 fn order(a: &Spot, b: &Spot) -> Ordering
     ensures { result ≡ by_spot a.now b.now }
 {
     order_by_year(&a.event, &b.event).then(a.zone.cmp(&b.zone))
 }
 
-/// Returns how many of the spots come before `spot`.
+/// Returns how many of the spots (event and zone of a row) come before `spot`. `spots` is in order
+/// by event (year, number, hazard), then zone.
 fn spots_below(spots: &[Spot], spot: &Spot) -> usize
     requires { IsStrictlySortedBy by_spot spots.now }
     ensures value { result ≡ prefix_len (λ other. is_lt (by_spot other spot.now)) spots.now }
@@ -49,7 +50,8 @@ fn spots_below(spots: &[Spot], spot: &Spot) -> usize
     )
 }
 
-/// Returns the index of the spot, or as `Err` the index at which it belongs.
+/// Returns the index of `spot` in `spots`, or as `Err` the index at which to insert it. `spots` is
+/// in order by event (year, number, hazard), then zone.
 fn seat_of(spots: &[Spot], spot: &Spot) -> Result<usize, usize>
     requires { IsStrictlySortedBy by_spot spots.now }
     ensures seat { IsSeat result spots.now }
@@ -67,7 +69,9 @@ fn seat_of(spots: &[Spot], spot: &Spot) -> Result<usize, usize>
     }
 }
 
-/// Puts a spot, unless it is there. Memory is taken only if the spots outgrow their capacity.
+/// Inserts a spot (event and zone of a row) into `spots`, which is in order by event (year, number,
+/// hazard), then zone; does nothing if it is there. Memory is taken only if the spots outgrow their
+/// capacity; `Err` is out of memory.
 fn put(spots: &mut Vec<Spot>, spot: &Spot) -> Result<(), Oom>
     requires { IsStrictlySortedBy by_spot spots.old.items }
     ensures ok { OnOk result (spots.new.items ≡ put_spot spot.now spots.old.items) }
@@ -82,13 +86,19 @@ fn put(spots: &mut Vec<Spot>, spot: &Spot) -> Result<(), Oom>
     Ok(())
 }
 
-/// Puts the spot of a row, if there is a row.
-pub fn put_spot_if(spots: &mut Vec<Spot>, row: &Option<Row>) -> Result<(), Oom>
+/// Inserts the event and zone of `row` into `spots`, which is in order by event (year, number,
+/// hazard), then zone; does nothing if they are there or `row` is `None`. Memory is taken only if
+/// the spots outgrow their capacity.
+///
+/// # Errors
+///
+/// Out of memory.
+pub fn add_spot_if(spots: &mut Vec<Spot>, row: &Option<Row>) -> Result<(), Oom>
     requires { IsStrictlySortedBy by_spot spots.old.items }
-    ensures ok { OnOk result (spots.new.items ≡ put_spot_if row.now spots.old.items) }
+    ensures ok { OnOk result (spots.new.items ≡ add_spot_if row.now spots.old.items) }
     ensures capacity { vec_capacity spots.old ≤ vec_capacity spots.new }
     ensures err { OnErr result
-        (vec_capacity spots.old < length (put_spot_if row.now spots.old.items)) }
+        (vec_capacity spots.old < length (add_spot_if row.now spots.old.items)) }
 {
     match row {
         Some(row) => put(
@@ -102,7 +112,8 @@ pub fn put_spot_if(spots: &mut Vec<Spot>, row: &Option<Row>) -> Result<(), Oom>
     }
 }
 
-/// Returns how many of the spots are of events before `e`.
+/// Returns how many of the spots are of events that come before `e` by year, number and hazard.
+/// `spots` is in order by event (year, number, hazard), then zone.
 fn events_before(spots: &[Spot], e: &Event) -> usize
     requires { IsStrictlySortedBy by_spot spots.now }
     ensures value { result ≡ prefix_len (λ s. is_lt (by_year s.event e.now)) spots.now }
@@ -115,7 +126,8 @@ fn events_before(spots: &[Spot], e: &Event) -> usize
     )
 }
 
-/// Returns how many of the spots are of `e` or of events before it.
+/// Returns how many of the spots are of `e` or of events that come before it by year, number and
+/// hazard. `spots` is in order by event (year, number, hazard), then zone.
 fn events_through(spots: &[Spot], e: &Event) -> usize
     requires { IsStrictlySortedBy by_spot spots.now }
     ensures value { result ≡ prefix_len (λ s. is_le (by_year s.event e.now)) spots.now }
@@ -128,7 +140,8 @@ fn events_through(spots: &[Spot], e: &Event) -> usize
     )
 }
 
-/// Returns the spots of an event, by zone.
+/// Returns the spots (event and zone of a row) of an event, by zone; empty if there are none.
+/// `spots` is in order by event (year, number, hazard), then zone.
 pub fn spots_of<'a>(spots: &'a [Spot], e: &Event) -> &'a [Spot]
     requires { IsStrictlySortedBy by_spot spots.now }
     ensures { result.now ≡ spots_of e.now spots.now }
@@ -139,7 +152,8 @@ pub fn spots_of<'a>(spots: &'a [Spot], e: &Event) -> &'a [Spot]
     &rest[..count]
 }
 
-/// Returns the first row at the spots.
+/// Returns the row with the event and zone of the first of the spots for which `rows` has one, or
+/// `None` if it has one for none of them.
 fn first_on(rows: &BoardRows, spots: &[Spot]) -> Option<Row>
     ensures { result ≡ first_of (rows_on rows.now.rows spots.now) }
 {
@@ -152,7 +166,9 @@ fn first_on(rows: &BoardRows, spots: &[Spot]) -> Option<Row>
     None
 }
 
-/// Returns the first row of an event, by zone. Only the event's rows are read.
+/// Returns the first row of an event, by zone, ended or not, or `None` if there is none. `spots`
+/// has the event and zone of each of `rows`, in order by event (year, number, hazard), then zone;
+/// only the event's rows are read.
 pub fn first_row(rows: &BoardRows, spots: &[Spot], e: &Event) -> Option<Row>
     requires order { IsStrictlySortedBy by_key rows.now.rows }
     requires spots { AreSpots rows.now.rows spots.now }

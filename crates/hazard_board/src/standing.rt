@@ -8,7 +8,7 @@ ghost use Rattle.hazard_types.specs.Orders.{by_event};
 ghost use Rattle.hazard_types.specs.Same.{same_event};
 ghost use Rattle.hazard_types.specs.declared.hazard.Event.{Event as AnyEvent};
 ghost use Rattle.hazard_board.specs.Periods.{by_period, latest_in};
-ghost use Rattle.hazard_board.specs.Standing.{by_standing, end_in, insert_standing, without, IsPlaceOf, IsGapFor, touches, touched, are_one, moves_end, newly};
+ghost use Rattle.hazard_board.specs.Standing.{by_standing, end_in, insert_standing, without, IsPlaceOf, IsGapFor, touches, touched, are_equal_ends, moves_end, newly};
 
 use crate::periods::{PeriodCount, latest_in};
 use event_life::is_routine;
@@ -22,7 +22,7 @@ pub struct Standing {
     pub latest: End,
 }
 
-/// Returns how many of the events come before `e`.
+/// Returns how many of the events, which are in order by hazard, number and year, come before `e`.
 fn events_before(standing: &[Standing], e: &Event) -> usize
     requires { IsStrictlySortedBy by_standing standing.now }
     ensures value { result ≡ prefix_len (λ s. is_lt (by_event s.event e.now)) standing.now }
@@ -35,7 +35,8 @@ fn events_before(standing: &[Standing], e: &Event) -> usize
     )
 }
 
-/// Returns the index of an event, or as `Err` the index at which it belongs.
+/// Returns the index of event `e` in `standing`, or as `Err` the index at which to insert it.
+/// `standing` is in order by hazard, number and year.
 fn place_of(standing: &[Standing], e: &Event) -> Result<usize, usize>
     requires { IsStrictlySortedBy by_standing standing.now }
     ensures found { IfOk result (IsPlaceOf e.now standing.now) }
@@ -53,7 +54,8 @@ fn place_of(standing: &[Standing], e: &Event) -> Result<usize, usize>
     }
 }
 
-/// Puts an event with its end, in place of the one that is there if it is.
+/// Inserts an event with its latest end into `standing`, which is in order by hazard, number and
+/// year, or replaces the entry of the event. There must be capacity for it.
 fn insert_standing(standing: &mut Vec<Standing>, s: &Standing)
     requires order { IsStrictlySortedBy by_standing standing.old.items }
     requires room { end_in standing.old.items s.now.event ≡ None
@@ -72,7 +74,8 @@ fn insert_standing(standing: &mut Vec<Standing>, s: &Standing)
     }
 }
 
-/// Removes an event, if it is in the list.
+/// Removes the entry of event `e` from `standing`, which is in order by hazard, number and year;
+/// does nothing if there is none.
 fn take_out(standing: &mut Vec<Standing>, e: &Event)
     requires order { IsStrictlySortedBy by_standing standing.old.items }
     ensures items { standing.new.items ≡ without e.now standing.old.items }
@@ -84,7 +87,8 @@ fn take_out(standing: &mut Vec<Standing>, e: &Event)
     }
 }
 
-/// Sets the end of an event, or removes the event if there is no end.
+/// Sets the latest end of event `e` in `standing`, which is in order by hazard, number and year, or
+/// removes its entry if `latest` is `None`. There must be capacity for a new entry.
 fn set_end(standing: &mut Vec<Standing>, e: &Event, latest: &Option<End>)
     requires order { IsStrictlySortedBy by_standing standing.old.items }
     requires room { IsSome latest.now
@@ -110,7 +114,8 @@ fn set_end(standing: &mut Vec<Standing>, e: &Event, latest: &Option<End>)
     }
 }
 
-/// Returns the end of an event, if it is in the list.
+/// Returns the latest end that `standing` has for event `e`, or `None` if it has no entry of the
+/// event. `standing` is in order by hazard, number and year.
 fn end_in(standing: &[Standing], e: &Event) -> Option<End>
     requires { IsStrictlySortedBy by_standing standing.now }
     ensures { result ≡ end_in standing.now e.now }
@@ -128,8 +133,8 @@ fn end_in(standing: &[Standing], e: &Event) -> Option<End>
 }
 
 /// Whether the two ends are equal, or both are `None`.
-fn are_one(first: &Option<End>, second: &Option<End>) -> bool
-    ensures { result ≡ are_one first.now second.now }
+fn are_equal_ends(first: &Option<End>, second: &Option<End>) -> bool
+    ensures { result ≡ are_equal_ends first.now second.now }
 {
     match first {
         Some(first) => match second {
@@ -143,22 +148,23 @@ fn are_one(first: &Option<End>, second: &Option<End>) -> bool
     }
 }
 
-/// Whether the line is of the event and not routine.
+/// Whether the line is of the event and is not ROU, so that it may change a row of it.
 fn touches(line: &Line, e: &Event) -> bool
     ensures { result ≡ touches e.now line.now }
 {
     !is_routine(&line.action) && line.event == *e
 }
 
-/// Whether the line is not routine and its event does not have this end in the list.
+/// Whether the line is not ROU and the end that `standing` has for its event (`None` if it has no
+/// entry) differs from `latest`. `standing` is in order by hazard, number and year.
 fn moves_end(standing: &[Standing], line: &Line, latest: &Option<End>) -> bool
     requires { IsStrictlySortedBy by_standing standing.now }
     ensures { result ≡ moves_end standing.now line.now latest.now }
 {
-    !is_routine(&line.action) && !are_one(&end_in(standing, &line.event), latest)
+    !is_routine(&line.action) && !are_equal_ends(&end_in(standing, &line.event), latest)
 }
 
-/// Whether the last of the lines is of the event and not routine.
+/// Whether there are lines and the last is of the event and not ROU.
 fn touches_last(lines: &[Line], e: &Event) -> bool
     ensures { result ≡ true → touched lines.now e.now ≡ true }
 {
@@ -170,7 +176,11 @@ fn touches_last(lines: &[Line], e: &Event) -> bool
     touches(line, e)
 }
 
-/// Whether the end of a line's event is to be set: it differs, and was not set for the line before.
+/// Whether the line is not ROU and the end that `standing` has for its event differs from the
+/// event's latest end in `periods`, so that it must be set. `false` if the last of `earlier`, the
+/// product's lines before this one, is of the same event and not ROU, since the end was then set
+/// for that line. `standing` is in order by hazard, number and year, `periods` by event (year,
+/// number, hazard), then end, a later one first.
 fn is_end_to_set(
     standing: &[Standing],
     periods: &[PeriodCount],
@@ -192,7 +202,10 @@ fn is_end_to_set(
     moves_end(standing, line, &latest)
 }
 
-/// Sets the ends of the lines' events to the latest ends of the periods. Most have these already.
+/// Sets in `standing`, for each event that has a line other than ROU, the latest end that `periods`
+/// has for it, and removes events that have none there. `standing` is in order by hazard, number
+/// and year and must have capacity for the new events; `periods` is in order by event (year,
+/// number, hazard), then end, a later one first.
 pub fn set_latest_ends(standing: &mut Vec<Standing>, periods: &[PeriodCount], lines: &[Line])
     requires periods { IsStrictlySortedBy by_period periods.now }
     requires order { IsStrictlySortedBy by_standing standing.old.items }

@@ -3,7 +3,7 @@ use Rattle.std.proofs.Common.{◌≡◌, ◌≢◌, ◌∙◌, ◌<◌, ℕ, zer
 use Rattle.std.specs.Option.{option_copied}
 use Rattle.hazard_types.specs.declared.hazard.Hazard.{Hazard}
 use Rattle.hazard_types.specs.Hazards.{DeskHazard, desk_hazards, value_of, facts_of, name_of, fact_rows, name_rows}
-use Rattle.hazard_types.specs.Known.{hazard_in, known_for}
+use Rattle.hazard_types.specs.Known.{parse_hazard, known_for}
 use Rattle.hazard_types.specs.Same.{same_hazard}
 use Rattle.hazard_types.specs.declared.desk_hazards.Known.{Known}
 use Rattle.hazard_types.specs.declared.desk_hazards.TheConstants.{FACTS}
@@ -12,30 +12,30 @@ use Rattle.hazard_types.proofs.Equality.{hazard_decides}
 
 module _ {X : Type 0} where
   -- the row at this place has the hazard
-  pub hit : (rows : List (Known X)) (i : ℕ) (r : Known X) (h : Hazard) → i < length rows → r ≡ get_or rows i r → same_hazard (hazard_in r) h ≡ true → known_for (drop i rows) h ≡ Some r.value
+  pub hit : (rows : List (Known X)) (i : ℕ) (r : Known X) (h : Hazard) → i < length rows → r ≡ get_or rows i r → same_hazard (parse_hazard r) h ≡ true → known_for (drop i rows) h ≡ Some r.value
   hit rows i r h inside is e =
       let front : drop i rows ≡ r ∷ drop (suc i) rows = drop-cons rows i r inside ∙ ap (λ (x : Known X). x ∷ drop (suc i) rows) (sym is) in
       rw (front, e) refl
 
   -- it has not
-  pub miss : (rows : List (Known X)) (i : ℕ) (r : Known X) (h : Hazard) → i < length rows → r ≡ get_or rows i r → same_hazard (hazard_in r) h ≡ false → known_for (drop i rows) h ≡ known_for (drop (suc i) rows) h
+  pub miss : (rows : List (Known X)) (i : ℕ) (r : Known X) (h : Hazard) → i < length rows → r ≡ get_or rows i r → same_hazard (parse_hazard r) h ≡ false → known_for (drop i rows) h ≡ known_for (drop (suc i) rows) h
   miss rows i r h inside is e =
       let front : drop i rows ≡ r ∷ drop (suc i) rows = drop-cons rows i r inside ∙ ap (λ (x : Known X). x ∷ drop (suc i) rows) (sym is) in
       ap (λ (rest : List (Known X)). known_for rest h) front ∙ ap (λ b. cond b (Some r.value) (known_for (drop (suc i) rows) h)) e
 
   -- rows tell what the pairs of their hazards and values do
-  pub as_pairs : (rows : List (Known X)) (h : Hazard) → known_for rows h ≡ value_of (map (λ (k : Known X). (hazard_in k, k.value)) rows) h
+  pub as_pairs : (rows : List (Known X)) (h : Hazard) → known_for rows h ≡ value_of (map (λ (k : Known X). (parse_hazard k, k.value)) rows) h
   as_pairs [] h = refl
-  as_pairs (k ∷ rows) h = ap (λ (rest : Option X). cond (same_hazard (hazard_in k) h) (Some k.value) rest) (as_pairs rows h)
+  as_pairs (k ∷ rows) h = ap (λ (rest : Option X). cond (same_hazard (parse_hazard k) h) (Some k.value) rest) (as_pairs rows h)
 
-named_if : (r : Known (Bor (List ℕ))) (rows : List (Known (Bor (List ℕ)))) (h : Hazard) (b : Bool) → option_copied (known_for rows h) ≡ value_of (map (λ (k : Known (Bor (List ℕ))). (hazard_in k, k.value.now)) rows) h → option_copied (cond b (Some r.value) (known_for rows h)) ≡ cond b (Some r.value.now) (value_of (map (λ (k : Known (Bor (List ℕ))). (hazard_in k, k.value.now)) rows) h)
+named_if : (r : Known (Bor (List ℕ))) (rows : List (Known (Bor (List ℕ)))) (h : Hazard) (b : Bool) → option_copied (known_for rows h) ≡ value_of (map (λ (k : Known (Bor (List ℕ))). (parse_hazard k, k.value.now)) rows) h → option_copied (cond b (Some r.value) (known_for rows h)) ≡ cond b (Some r.value.now) (value_of (map (λ (k : Known (Bor (List ℕ))). (parse_hazard k, k.value.now)) rows) h)
 named_if r rows h true later = refl
 named_if r rows h false later = later
 
 -- a name that is lent is the name beside the hazard
-pub named : (rows : List (Known (Bor (List ℕ)))) (h : Hazard) → option_copied (known_for rows h) ≡ value_of (map (λ (k : Known (Bor (List ℕ))). (hazard_in k, k.value.now)) rows) h
+pub named : (rows : List (Known (Bor (List ℕ)))) (h : Hazard) → option_copied (known_for rows h) ≡ value_of (map (λ (k : Known (Bor (List ℕ))). (parse_hazard k, k.value.now)) rows) h
 named [] h = refl
-named (r ∷ rows) h = named_if r rows h (same_hazard (hazard_in r) h) (named rows h)
+named (r ∷ rows) h = named_if r rows h (same_hazard (parse_hazard r) h) (named rows h)
 
 further : (x : DeskHazard) (xs : List DeskHazard) (d : DeskHazard) → Contains xs d → Contains (x ∷ xs) d
 further x xs d (k, inside, is) = (suc k, omega arith, is)

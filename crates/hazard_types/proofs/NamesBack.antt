@@ -9,7 +9,7 @@ use Rattle.hazard_types.specs.Codes.{value_for_code}
 use Rattle.hazard_types.specs.Tables.{category_rows}
 use Rattle.hazard_types.specs.declared.codes.Category.{Category}
 use Rattle.hazard_types.specs.declared.codes.Category.TheVariants as category
-use Rattle.hazard_types.specs.Names.{category_code, sig_at, kind_at, kind_code, zone_text, zone_at, hazard_at, four_of, event_if, event_text, event_at}
+use Rattle.hazard_types.specs.Names.{category_code, sig_at, kind_at, kind_code, zone_text, zone_at, hazard_at, parse_four_digits, event_if, event_text, event_at}
 use Rattle.hazard_types.specs.Orders.{sig_letter}
 use Rattle.hazard_types.specs.Places.{Place, IsPlace, are_letters, is_capital, is_number}
 use Rattle.hazard_types.specs.declared.zone.Kind.{Kind}
@@ -72,8 +72,8 @@ hazard_from (a ∷ b ∷ []) s letters two =
 pub hazard_back : (h : Hazard) → IsTrue (are_letters h.phen) → length h.phen ≡ 2 → hazard_at (hazard_code h) ≡ Some h
 hazard_back h letters two = hazard_from h.phen h.sig letters two
 
-four_back : (n : ℕ) → n ≤ 9999 → four_of (48 + n / 1000) (48 + n / 100 % 10) (48 + n / 10 % 10) (48 + n % 10) ≡ Some n
-unfolding four_of
+four_back : (n : ℕ) → n ≤ 9999 → parse_four_digits (48 + n / 1000) (48 + n / 100 % 10) (48 + n / 10 % 10) (48 + n % 10) ≡ Some n
+unfolding parse_four_digits
 four_back n h =
     let same : 1000 * (48 + n / 1000 - 48) + 100 * (48 + n / 100 % 10 - 48) + 10 * (48 + n / 10 % 10 - 48) + (48 + n % 10 - 48) ≡ n = omega arith in
     rw (digit (n / 1000) (omega arith), digit (n / 100 % 10) (omega arith), digit (n / 10 % 10) (omega arith), digit (n % 10) (omega arith), same) refl

@@ -78,8 +78,8 @@ abbrev pub event_text : Event → List ℕ
 event_text e = hazard_code e.hazard ++ (codes "." ++ (wide e.etn ++ (codes "." ++ wide e.year)))
 
 -- the number that four digits are
-unfoldable pub four_of : ℕ → ℕ → ℕ → ℕ → Option ℕ
-four_of a b c d =
+unfoldable pub parse_four_digits : ℕ → ℕ → ℕ → ℕ → Option ℕ
+parse_four_digits a b c d =
     if is_digit a && is_digit b && is_digit c && is_digit d
     then Some (1000 * (a - 48) + 100 * (b - 48) + 10 * (c - 48) + (d - 48))
     else None
@@ -93,7 +93,7 @@ event_if h etn year =
 
 abbrev pub number_at : List ℕ → ℕ → Option ℕ
 number_at bs i =
-    four_of (slice_index bs i) (slice_index bs (i + 1)) (slice_index bs (i + 2))
+    parse_four_digits (slice_index bs i) (slice_index bs (i + 1)) (slice_index bs (i + 2))
     (slice_index bs (i + 3))
 
 -- the event of a text: a hazard, four digits of a number and four of a year, with dots between

@@ -24,7 +24,7 @@ pub fn is_printable(byte: u8) -> bool
     32 <= byte && byte <= 126
 }
 
-/// Whether each byte is A-Z or 0-9.
+/// Whether each byte is A-Z or 0-9; true if there are no bytes.
 pub fn are_name_bytes(text: &[u8]) -> bool
     ensures { result ≡ list_all is_name_byte text.now }
 {

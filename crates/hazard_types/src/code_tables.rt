@@ -13,7 +13,8 @@ macro_rules! rows {
     };
 }
 
-/// Returns the table of product classes.
+/// Returns the table of product classes: each class with its letter, which is padded with blanks to
+/// four bytes.
 ///
 /// Source: NWS Instruction 10-1703, P-VTEC product class.
 #[tactic(auto, using(crate::proofs::Tables::class_table), unfolding(crate::specs::Tables::class_rows))]
@@ -24,7 +25,8 @@ pub fn classes() -> [Coded<Class>; 4]
     rows![b"O   " => Class::O, b"T   " => Class::T, b"E   " => Class::E, b"X   " => Class::X]
 }
 
-/// Returns the table of actions.
+/// Returns the table of actions: each action with its three letters, as `NEW`, which are padded
+/// with a blank to four bytes.
 ///
 /// Source: NWS Instruction 10-1703, P-VTEC action codes.
 #[tactic(auto, using(crate::proofs::Tables::action_table), unfolding(crate::specs::Tables::action_rows))]
@@ -46,7 +48,8 @@ pub fn actions() -> [Coded<Action>; 10]
     ]
 }
 
-/// Returns the table of significances.
+/// Returns the table of significances: each significance with its letter, which is padded with
+/// blanks to four bytes.
 ///
 /// Source: NWS Instruction 10-1703, P-VTEC significance codes.
 #[tactic(auto, using(crate::proofs::Tables::sig_table), unfolding(crate::specs::Tables::sig_rows))]
@@ -65,7 +68,8 @@ pub fn significances() -> [Coded<Sig>; 7]
     ]
 }
 
-/// Returns the table of flood severities.
+/// Returns the table of flood severities: each severity with its character, as `N` or `0`, which is
+/// padded with blanks to four bytes.
 ///
 /// Source: NWS Instruction 10-1703, H-VTEC flood severity.
 #[tactic(auto, using(crate::proofs::Tables::severity_table), unfolding(crate::specs::Tables::severity_rows))]
@@ -83,7 +87,8 @@ pub fn severities() -> [Coded<Severity>; 6]
     ]
 }
 
-/// Returns the table of the flood causes that a request may name.
+/// Returns the table of the flood causes that a request may name: each cause with its two letters,
+/// as `ER`, which are padded with blanks to four bytes.
 ///
 /// Source: NWS Instruction 10-1703, H-VTEC immediate cause; docs/HAZARDS.md, "Flood values".
 #[tactic(auto, using(crate::proofs::Tables::cause_table), unfolding(crate::specs::Tables::cause_rows))]
@@ -102,7 +107,8 @@ pub fn written_causes() -> [Coded<Cause>; 7]
     ]
 }
 
-/// Returns the table of flood record statuses.
+/// Returns the table of flood record statuses: each status with its two letters, as `NO`, which are
+/// padded with blanks to four bytes.
 ///
 /// Source: NWS Instruction 10-1703, H-VTEC flood record status.
 #[tactic(auto, using(crate::proofs::Tables::status_table), unfolding(crate::specs::Tables::status_rows))]
@@ -118,7 +124,8 @@ pub fn statuses() -> [Coded<Status>; 4]
     ]
 }
 
-/// Returns the table of product categories.
+/// Returns the table of product categories: each category with its three letters, as `WSW`, which
+/// are padded with a blank to four bytes.
 ///
 /// Source: docs/HAZARDS.md, "Categories".
 #[tactic(auto, using(crate::proofs::Tables::category_table), unfolding(crate::specs::Tables::category_rows))]

@@ -3,7 +3,7 @@ ghost use Rattle.std.specs.Prelude.{◌≡◌, ◌≢◌, map, option_copied, If
 ghost use Rattle.hazard_types.specs.Codes.{IsTable};
 ghost use Rattle.hazard_types.specs.Tables.{row};
 ghost use Rattle.hazard_types.specs.Hazards.{DeskHazard, desk_hazards, name_rows, hazard_rows, hazard_code, facts_of, name_of};
-ghost use Rattle.hazard_types.specs.Known.{hazard_in, known_for};
+ghost use Rattle.hazard_types.specs.Known.{parse_hazard, known_for};
 
 use crate::codes::{Category, Coded, Family};
 use crate::facts::Facts;
@@ -59,7 +59,7 @@ macro_rules! hazard {
     };
 }
 
-/// Returns the row of a hazard in the table of codes.
+/// Returns a hazard's row in the table of the desk's hazards: its code, as `WS.W`, and the hazard.
 fn code(hazard: Hazard) -> Coded<Hazard>
     ensures { result ≡ row (hazard_code hazard) hazard }
 {
@@ -69,6 +69,8 @@ fn code(hazard: Hazard) -> Coded<Hazard>
     }
 }
 
+/// Returns the table of the 28 hazards that the desk issues: the code of each, as `WS.W`, and the
+/// hazard.
 #[tactic(auto, unfolding(crate::specs::Hazards::hazard_rows, crate::specs::Hazards::desk_hazards))]
 fn all_codes() -> [Coded<Hazard>; 28]
     ensures { result ≡ hazard_rows }
@@ -81,7 +83,7 @@ fn all_codes() -> [Coded<Hazard>; 28]
     each_hazard!(coded)
 }
 
-/// Returns the table of the 28 hazards that the desk issues, with codes as `WS.W`.
+/// Returns the table of the 28 hazards that the desk issues: each hazard with its code, as `WS.W`.
 ///
 /// Source: docs/HAZARDS.md.
 #[tactic(auto, using(crate::proofs::Tables::hazard_table))]
@@ -162,9 +164,11 @@ macro_rules! known_name {
 /// The name of each hazard.
 static NAMES: [Known<&'static str>; 28] = each_hazard!(known_name);
 
+/// Returns the table of the 28 hazards that the desk issues, each with its name in headlines, as
+/// `Winter Storm Warning`.
 #[tactic(auto, unfolding(crate::specs::Hazards::name_rows, crate::specs::Hazards::desk_hazards))]
 fn all_names() -> &'static [Known<&'static str>; 28]
-    ensures { map (λ k. (hazard_in k, k.value.now)) result.now ≡ name_rows }
+    ensures { map (λ k. (parse_hazard k, k.value.now)) result.now ≡ name_rows }
 {
     &NAMES
 }
@@ -182,7 +186,9 @@ fn value_of<V: Copy>(rows: &[Known<V>], h: Hazard) -> Option<V>
     None
 }
 
-/// Returns the facts of a hazard, or `None` if the desk does not issue it.
+/// Returns what the desk knows of a hazard, or `None` if the desk does not issue it. These facts
+/// are the categories of its products, the kind of its zones, its family and its rank in that, and
+/// whether its events may last until further notice and need H-VTEC values.
 ///
 /// Source: docs/HAZARDS.md.
 pub fn facts(h: Hazard) -> Option<Facts>

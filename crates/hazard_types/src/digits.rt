@@ -8,7 +8,7 @@ use crate::calendar::DayStamp;
 use crate::list::{Oom, Text};
 use std::alloc::Global;
 
-/// Returns a number below 100 as two digits.
+/// Returns a number below 100 as two ASCII digits, with leading zeros.
 pub fn two_digits(n: u8) -> [u8; 2]
     requires { n < 100 }
     ensures { result ≡ two_digits n }
@@ -16,7 +16,7 @@ pub fn two_digits(n: u8) -> [u8; 2]
     [b'0' + n / 10, b'0' + n % 10]
 }
 
-/// Returns a number below 1,000 as three digits.
+/// Returns a number below 1,000 as three ASCII digits, with leading zeros.
 pub fn three_digits(n: u16) -> [u8; 3]
     requires { n ≤ 999 }
     ensures { result ≡ three_digits n }
@@ -28,7 +28,7 @@ pub fn three_digits(n: u16) -> [u8; 3]
     ]
 }
 
-/// Returns a number below 10,000 as four digits.
+/// Returns a number below 10,000 as four ASCII digits, with leading zeros.
 pub fn four_digits(n: u16) -> [u8; 4]
     requires { n ≤ 9999 }
     ensures { result ≡ four_digits n }
@@ -46,14 +46,14 @@ pub fn four_digits(n: u16) -> [u8; 4]
 /// # Errors
 ///
 /// Out of memory.
-pub fn put_number(alloc: Global, out: &mut Text, n: usize) -> Result<(), Oom>
+pub fn write_number(alloc: Global, out: &mut Text, n: usize) -> Result<(), Oom>
     ensures { OnOk result (out.new ≡ out.old ++ decimal n) }
 {
     let text = format!(in alloc; "{n}")?;
     out.extend(text.as_bytes())
 }
 
-/// Appends a number in four digits, or in five if it is 10,000 or more.
+/// Appends a number in four digits, with leading zeros, or in five if it is 10,000 or more.
 ///
 /// # Errors
 ///
@@ -65,7 +65,7 @@ pub fn push_four_digits_or_more(alloc: Global, out: &mut Text, n: u16) -> Result
     if n < 10_000 {
         out.extend(&four_digits(n))
     } else {
-        put_number(alloc, out, n as usize)
+        write_number(alloc, out, n as usize)
     }
 }
 
@@ -89,7 +89,7 @@ pub fn day_text(d: DayStamp) -> [u8; 6]
     [day[0], day[1], hour[0], hour[1], minute[0], minute[1]]
 }
 
-/// Returns the number that two digits are.
+/// Returns the number, 0 to 99, of two ASCII digits. Both bytes must be digits.
 pub(crate) fn two_of(tens: u8, ones: u8) -> u8
     requires tens { IsTrue (is_digit tens) }
     requires ones { IsTrue (is_digit ones) }
@@ -98,6 +98,8 @@ pub(crate) fn two_of(tens: u8, ones: u8) -> u8
     10 * (tens - b'0') + (ones - b'0')
 }
 
+/// Returns the day of the month, the hour and the minute that six ASCII digits spell, as `180600`,
+/// or `None` if the bytes are not six digits or one of the three is out of range.
 #[tactic(auto, unfolding(crate::specs::Digits::parse_day_stamp))]
 fn day_stamp_of(text: &[u8]) -> Option<DayStamp>
     ensures { result ≡ parse_day_stamp text.now }
@@ -126,8 +128,8 @@ fn day_stamp_of(text: &[u8]) -> Option<DayStamp>
     }
 }
 
-/// Returns the day stamp that six digits are, or `None` if the bytes are not six digits or are out
-/// of range.
+/// Returns the day of the month, the hour and the minute that six ASCII digits spell, as `180600`,
+/// or `None` if the bytes are not six digits or one of the three is out of range.
 ///
 /// Source: NWS Instruction 10-1702, UGC expiry; NWS Instruction 10-1701, WMO heading.
 #[tactic(auto, using(crate::proofs::DayTexts::day_stamp_back, crate::proofs::DayTexts::day_stamp_is_read))]

@@ -52,7 +52,7 @@ impl Phen {
         Phen { letters }
     }
 
-    /// Returns the two letters.
+    /// Returns the two capital letters of the phenomenon.
     pub fn letters(self) -> [u8; 2]
         ensures value { result ≡ self }
     {

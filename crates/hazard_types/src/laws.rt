@@ -1,6 +1,6 @@
 //! Laws of equality, of orders, of stamps and of names, for the crates above. The functions do
 //! nothing: their contracts are the laws.
-ghost use Rattle.std.specs.Prelude.{◌≡◌, ◌<◌, ℕ, List, Some, true};
+ghost use Rattle.std.specs.Prelude.{◌≡◌, ◌<◌, ℕ, List, Some};
 ghost use Rattle.std.specs.Bool.{Decides};
 ghost use Rattle.std.specs.Cmp.{IsTotalOrder};
 ghost use Rattle.std.specs.declared.cmp.Ordering.TheVariants.{Equal};
@@ -19,7 +19,7 @@ use crate::line::{Flood, Line, Row, SegLine};
 use crate::period::End;
 use crate::zone::Zone;
 
-/// `==` of zones, hazards, events, H-VTEC values, lines, rows, desks and requests holds exactly of
+/// `==` of zones, hazards, events, H-VTEC values, lines, segment lines and rows holds exactly of
 /// identical values.
 #[tactic(auto, using(crate::proofs::Equality::zone_decides, crate::proofs::Equality::hazard_decides, crate::proofs::Equality::event_decides, crate::proofs::Equality::flood_decides, crate::proofs::Equality::line_decides, crate::proofs::Equality::seg_line_decides, crate::proofs::Equality::row_decides))]
 pub fn equality_is_identity()
@@ -54,7 +54,8 @@ pub fn stamps_are_inverse()
     ensures writes { (bytes : List ℕ) (m : ℕ) → stamp_at bytes ≡ Some m → bytes ≡ stamp_of m }
 {}
 
-/// Two values of a table of codes that are equal by `==` are identical, as `code_of` requires.
+/// Two classes, actions, significances, severities, causes, statuses, categories or hazards that
+/// are equal by `==` are identical. `code_of` requires this of the values of its table.
 #[tactic(auto, using(crate::proofs::Equality::class_one, crate::proofs::Equality::action_one, crate::proofs::Equality::sig_one, crate::proofs::Equality::severity_one, crate::proofs::Equality::cause_one, crate::proofs::Equality::status_one, crate::proofs::Equality::category_one, crate::proofs::Equality::hazard_one))]
 pub fn values_of_tables_are_identical()
     ensures classes { HoldsOfIdentical ⟦<Class as PartialEq>⟧.eq }
@@ -67,8 +68,8 @@ pub fn values_of_tables_are_identical()
     ensures hazards { HoldsOfIdentical ⟦<Hazard as PartialEq>⟧.eq }
 {}
 
-/// The text of a zone, a hazard, a category or an event is read as that value. Events have numbers
-/// 1 to 9,999 and years 2000 to 2099.
+/// The text that is written for a zone, a hazard, a category or an event is read as that same
+/// value. Of events this holds if the number is 1 to 9,999 and the year 2000 to 2099.
 #[tactic(auto, using(crate::proofs::NamesBack::zone_back, crate::proofs::NamesBack::hazard_back, crate::proofs::NamesBack::event_back, crate::proofs::NamesBack::category_back))]
 pub fn names_read_back()
     ensures zones { (z : Place) → IsPlace z → zone_at (zone_text z) ≡ Some z }

@@ -1,12 +1,9 @@
 //! The texts of significances, kinds, categories, zones, hazards and events, both ways.
-ghost use Rattle.std.specs.Prelude.{◌≡◌, ◌≤◌, ◌++◌, OnOk, IfSome, Some, IsTrue, length};
+ghost use Rattle.std.specs.Prelude.{◌≡◌, ◌≤◌, ◌++◌, OnOk, IfSome, Some};
 ghost use Rattle.hazard_types.specs.Codes.{value_for_code};
 ghost use Rattle.hazard_types.specs.Hazards.{hazard_code};
 ghost use Rattle.hazard_types.specs.Tables.{category_rows};
-ghost use Rattle.hazard_types.specs.Names.{category_code, sig_at, kind_code, kind_at, zone_text, zone_at, hazard_at, four_of, event_if, event_text, event_at, is_fl_phenomenon};
-ghost use Rattle.hazard_types.specs.Places.{Place, IsPlace, are_letters};
-ghost use Rattle.hazard_types.specs.declared.hazard.Hazard.{Hazard as AnyHazard};
-ghost use Rattle.hazard_types.specs.declared.hazard.Event.{Event as AnyEvent};
+ghost use Rattle.hazard_types.specs.Names.{category_code, sig_at, kind_code, kind_at, zone_text, zone_at, hazard_at, parse_four_digits, event_if, event_text, event_at, is_fl_phenomenon};
 
 use crate::code_tables::categories;
 use crate::codes::Category;
@@ -126,7 +123,7 @@ pub fn zone_text(zone: &Zone) -> [u8; 6]
 ///
 /// Source: NWS Instruction 10-1703, P-VTEC phenomena and significance codes.
 #[tactic(auto, unfolding(crate::specs::Names::hazard_at))]
-pub fn hazard_in(text: &[u8]) -> Option<Hazard>
+pub fn parse_hazard(text: &[u8]) -> Option<Hazard>
     ensures { result ≡ hazard_at text.now }
 {
     let [first, second, b'.', sig] = text else {
@@ -147,10 +144,11 @@ pub fn hazard_text(hazard: &Hazard) -> [u8; 4]
     [first, second, b'.', hazard.sig.letter()]
 }
 
-/// Returns the number that four digits are, or `None` if a byte is not a digit.
-#[tactic(auto, unfolding(crate::specs::Names::four_of))]
-fn four_of(a: u8, b: u8, c: u8, d: u8) -> Option<u16>
-    ensures value { result ≡ four_of a b c d }
+/// Returns the number, 0 to 9,999, that four ASCII digits spell, `a` first, or `None` if one of the
+/// bytes is no digit.
+#[tactic(auto, unfolding(crate::specs::Names::parse_four_digits))]
+fn parse_four_digits(a: u8, b: u8, c: u8, d: u8) -> Option<u16>
+    ensures value { result ≡ parse_four_digits a b c d }
     ensures range { IfSome result (λ n. n ≤ 9999) }
 {
     if a.is_ascii_digit() && b.is_ascii_digit() && c.is_ascii_digit() && d.is_ascii_digit() {
@@ -165,7 +163,8 @@ fn four_of(a: u8, b: u8, c: u8, d: u8) -> Option<u16>
     }
 }
 
-/// Returns the event, or `None` if its number is 0 or its year is not 2000 to 2099.
+/// Returns the event with this hazard, event tracking number `etn` and year, or `None` if the
+/// number is 0 or the year is not 2000 to 2099.
 fn event_if(hazard: Hazard, etn: u16, year: u16) -> Option<Event>
     ensures { result ≡ event_if hazard etn year }
 {
@@ -187,9 +186,9 @@ pub fn parse_event(text: &[u8]) -> Option<Event>
     let [a, b, c, d, b'.', n, o, p, q, b'.', w, x, y, z] = text else {
         return None;
     };
-    let hazard = hazard_in(&[*a, *b, *c, *d])?;
-    let etn = four_of(*n, *o, *p, *q)?;
-    let year = four_of(*w, *x, *y, *z)?;
+    let hazard = parse_hazard(&[*a, *b, *c, *d])?;
+    let etn = parse_four_digits(*n, *o, *p, *q)?;
+    let year = parse_four_digits(*w, *x, *y, *z)?;
     event_if(hazard, etn, year)
 }
 
@@ -216,7 +215,7 @@ pub fn event_text(event: &Event) -> [u8; 14]
 /// # Errors
 ///
 /// Out of memory.
-pub fn put_event(alloc: Global, out: &mut Text, event: &Event) -> Result<(), Oom>
+pub fn write_event_text(alloc: Global, out: &mut Text, event: &Event) -> Result<(), Oom>
     ensures { OnOk result (out.new ≡ out.old ++ event_text event.now) }
 {
     out.extend(&hazard_text(&event.hazard))?;

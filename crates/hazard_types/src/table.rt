@@ -4,7 +4,7 @@ ghost use Rattle.hazard_types.specs.Codes.{without_padding, filled, value_for_co
 
 use crate::codes::Coded;
 
-/// Returns the bytes of a code before its first blank.
+/// Returns the bytes of a code before its first space, or all four if it has none.
 fn without_padding(code: &[u8; 4]) -> &[u8]
     ensures { result.now ≡ without_padding code.now }
 {
@@ -34,7 +34,8 @@ pub fn find<T: Copy, const N: usize>(rows: &[Coded<T>; N], code: &[u8]) -> Optio
     None
 }
 
-/// Returns the code of the first row with this value, with its blanks, or `None` if no row has it.
+/// Returns the code of the first row with this value, with the blanks that fill it up to four
+/// bytes, or `None` if no row has the value.
 pub fn code_of<T: Copy + Eq, const N: usize>(rows: &[Coded<T>; N], value: T) -> Option<[u8; 4]>
     requires { HoldsOfIdentical T.eq }
     ensures value { result ≡ code_for_value T.eq rows.now value }
@@ -50,7 +51,9 @@ pub fn code_of<T: Copy + Eq, const N: usize>(rows: &[Coded<T>; N], value: T) -> 
     None
 }
 
-/// In a table a code that is found is the code of its value, and the code of a value finds that
+/// If the look-up of a code in a table finds a value, the look-up of this value finds the code,
+/// padded with blanks to four bytes. If the look-up of a value finds a code, the look-up of this
+/// code without its blanks finds the value. In a table no two rows have the same code or the same
 /// value.
 pub fn tables_are_inverse<T: Copy + Eq>()
     ensures read_back { (rows : List (Coded T)) (code : List ℕ) (v : T) →

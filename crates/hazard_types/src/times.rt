@@ -2,7 +2,7 @@
 ghost use Rattle.std.specs.Prelude.{◌≡◌, ℕ, MatchOption, Option as Maybe};
 ghost use Rattle.hazard_types.specs.Times.{IsTime, time_text, time_at, end_text};
 
-use crate::calendar::{read_stamp, stamp};
+use crate::calendar::{parse_stamp, stamp};
 use crate::minute::Minute;
 use crate::period::End;
 
@@ -19,6 +19,8 @@ pub fn time_text(time: Option<Minute>) -> [u8; 12]
     }
 }
 
+/// Returns the minute whose stamp, as `180103T1530Z`, the text is, `Some(None)` for `000000T0000Z`,
+/// or `None` if the text is neither.
 #[tactic(auto, using(crate::proofs::TimesRead::no_time, crate::proofs::TimesRead::stamp_found))]
 fn read_time(text: &[u8]) -> Option<Option<Minute>>
     ensures { MatchOption result ((t : Maybe ℕ) → IsTime text.now t → ⊥) (IsTime text.now) }
@@ -26,16 +28,16 @@ fn read_time(text: &[u8]) -> Option<Option<Minute>>
     if text == b"000000T0000Z".as_slice() {
         Some(None)
     } else {
-        Some(Some(read_stamp(text)?))
+        Some(Some(parse_stamp(text)?))
     }
 }
 
-/// Returns the minute of a stamp, `Some(None)` for `000000T0000Z`, or `None` if the text is
-/// neither.
+/// Returns the minute whose stamp, as `180103T1530Z`, the text is, `Some(None)` for `000000T0000Z`,
+/// or `None` if the text is neither.
 ///
 /// Source: NWS Instruction 10-1703, P-VTEC and H-VTEC times.
 #[tactic(auto, using(crate::proofs::TimeLemmas::time_is_at))]
-pub fn time_in(text: &[u8]) -> Option<Option<Minute>>
+pub fn parse_time(text: &[u8]) -> Option<Option<Minute>>
     ensures value { result ≡ time_at text.now }
     ensures time { MatchOption result ((t : Maybe ℕ) → IsTime text.now t → ⊥) (IsTime text.now) }
 {

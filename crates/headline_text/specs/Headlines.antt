@@ -18,8 +18,8 @@ abbrev pub name_text : Hazard → List ℕ
 name_text h = unwrap_or (name_of h) []
 
 -- ...N in effect until E...
-abbrev pub stated : List ℕ → List ℕ → List ℕ → List ℕ
-stated name effect period = codes "..." ++ name ++ effect ++ period ++ codes "..."
+abbrev pub standing_headline : List ℕ → List ℕ → List ℕ → List ℕ
+standing_headline name effect period = codes "..." ++ name ++ effect ++ period ++ codes "..."
 
 -- ...The N is cancelled...
 abbrev pub told : List ℕ → List ℕ → List ℕ
@@ -31,12 +31,12 @@ expiry_of (At end) z t = if nat_lt t end then codes " will expire at " ++ local_
 expiry_of Ufn z t = codes " has expired"
 
 abbrev pub headline_by : Action → List ℕ → Option ℕ → End → LocalZone → ℕ → List ℕ
-headline_by New name begin end z t = stated name (codes " in effect ") (period_of z t begin end)
-headline_by Exa name begin end z t = stated name (codes " in effect ") (period_of z t begin end)
-headline_by Exb name begin end z t = stated name (codes " in effect ") (period_of z t begin end)
-headline_by Ext name begin end z t = stated name (codes " now in effect ") (period_of z t begin end)
-headline_by Con name begin end z t = stated name (codes " remains in effect ") (period_of z t begin end)
-headline_by Cor name begin end z t = stated name (codes " remains in effect ") (period_of z t begin end)
+headline_by New name begin end z t = standing_headline name (codes " in effect ") (period_of z t begin end)
+headline_by Exa name begin end z t = standing_headline name (codes " in effect ") (period_of z t begin end)
+headline_by Exb name begin end z t = standing_headline name (codes " in effect ") (period_of z t begin end)
+headline_by Ext name begin end z t = standing_headline name (codes " now in effect ") (period_of z t begin end)
+headline_by Con name begin end z t = standing_headline name (codes " remains in effect ") (period_of z t begin end)
+headline_by Cor name begin end z t = standing_headline name (codes " remains in effect ") (period_of z t begin end)
 headline_by Can name begin end z t = told name (codes " is cancelled")
 headline_by Upg name begin end z t = told name (codes " is upgraded")
 headline_by Exp name begin end z t = told name (expiry_of end z t)
@@ -56,17 +56,17 @@ capital [] = []
 capital (c ∷ cs) = to_ascii_uppercase c ∷ cs
 
 -- a line that leaves its row live has a WHEN bullet: CAN, EXP, UPG and ROU have none
-abbrev pub has_when : Action → Bool
-has_when a = leaves_live a
+abbrev pub has_when_bullet : Action → Bool
+has_when_bullet a = leaves_live a
 
 -- the WHEN bullet of a line in a product of minute t
 unfoldable pub when_of : SegLine → LocalZone → ℕ → List ℕ
-when_of l z t = if has_when l.action then codes "* WHEN..." ++ capital (period_of z t l.begin l.end) ++ codes "." else []
+when_of l z t = if has_when_bullet l.action then codes "* WHEN..." ++ capital (period_of z t l.begin l.end) ++ codes "." else []
 
 -- the words of a line's period, which its headline and its WHEN bullet say
 abbrev pub line_period_text : SegLine → LocalZone → ℕ → List ℕ
-line_period_text l z t = if has_when l.action then period_of z t l.begin l.end else []
+line_period_text l z t = if has_when_bullet l.action then period_of z t l.begin l.end else []
 
 -- the WHEN bullet with the words of its period
-abbrev pub when_with : Action → List ℕ → List ℕ
-when_with action period = if has_when action then codes "* WHEN..." ++ capital period ++ codes "." else []
+abbrev pub when_bullet_text : Action → List ℕ → List ℕ
+when_bullet_text action period = if has_when_bullet action then codes "* WHEN..." ++ capital period ++ codes "." else []

@@ -1,8 +1,8 @@
 //! The headline of a line of a segment, and its WHEN bullet.
-ghost use Rattle.std.specs.Prelude.{◌≡◌, ◌++◌, codes, IsSome, IsTrue, IfOk, OnOk};
+ghost use Rattle.std.specs.Prelude.{◌≡◌, ◌++◌, IsSome, IsTrue, IfOk, OnOk};
 ghost use Rattle.hazard_types.specs.Hazards.{name_of};
 ghost use Rattle.headline_text.specs.Wrapping.{wrapped};
-ghost use Rattle.headline_text.specs.Headlines.{name_text, stated, told, expiry_of, headline_of, is_minute, capital, has_when, when_of, line_period_text, when_with};
+ghost use Rattle.headline_text.specs.Headlines.{name_text, standing_headline, told, expiry_of, headline_of, is_minute, capital, has_when_bullet, when_of, line_period_text, when_bullet_text};
 
 use crate::periods::{PERIOD_ROOM, empty_text, period_text};
 use crate::wrapping::wrapped;
@@ -14,7 +14,7 @@ use std::alloc::Global;
 /// The bytes that most headlines have at most, for which memory is taken at once.
 const HEADLINE_ROOM: usize = 128;
 
-/// Returns the name of a hazard that the desk issues.
+/// Returns the name of a hazard, as it is written in headlines. The desk must issue the hazard.
 fn name_text(hazard: Hazard) -> &'static [u8]
     requires { IsSome (name_of hazard) }
     ensures { result.now ≡ name_text hazard }
@@ -25,9 +25,10 @@ fn name_text(hazard: Hazard) -> &'static [u8]
     }
 }
 
-/// Returns a headline such as `...N in effect until E...`.
-fn stated(alloc: Global, name: &[u8], effect: &[u8], period: &Text) -> Result<Text, Oom>
-    ensures { IfOk result (λ text. text ≡ stated name.now effect.now period.now) }
+/// Returns a headline such as `...N in effect until E...`: dots, `name`, `effect`, `period` and
+/// dots. `effect` are words such as ` in effect `, with a blank before and after them.
+fn standing_headline(alloc: Global, name: &[u8], effect: &[u8], period: &Text) -> Result<Text, Oom>
+    ensures { IfOk result (λ text. text ≡ standing_headline name.now effect.now period.now) }
 {
     let mut text = empty_text(alloc, HEADLINE_ROOM)?;
     text.extend(b"...")?;
@@ -38,8 +39,9 @@ fn stated(alloc: Global, name: &[u8], effect: &[u8], period: &Text) -> Result<Te
     Ok(text)
 }
 
-/// Returns a headline such as `...The N is cancelled...`.
-fn told_text(alloc: Global, name: &[u8], what: &[u8]) -> Result<Text, Oom>
+/// Returns a headline such as `...The N is cancelled...`: dots, `The`, `name`, `what` and dots.
+/// `what` are words such as ` is cancelled`, with a blank before them.
+fn past_headline(alloc: Global, name: &[u8], what: &[u8]) -> Result<Text, Oom>
     ensures { IfOk result (λ text. text ≡ told name.now what.now) }
 {
     let mut text = empty_text(alloc, HEADLINE_ROOM)?;
@@ -50,7 +52,9 @@ fn told_text(alloc: Global, name: &[u8], what: &[u8]) -> Result<Text, Oom>
     Ok(text)
 }
 
-/// Returns ` will expire at E` before the end, and ` has expired` from the end on.
+/// Returns ` will expire at E` if `t`, the product's issue minute, is before the end, and otherwise
+/// ` has expired`, also for an end until further notice. E is the local time of the end in `zone`,
+/// as `600 PM EST Wed Jan 3`.
 fn expiry_text(alloc: Global, end: &End, zone: LocalZone, t: Minute) -> Result<Text, Oom>
     ensures { IfOk result (λ text. text ≡ expiry_of end.now zone t) }
 {
@@ -69,9 +73,9 @@ fn expiry_text(alloc: Global, end: &End, zone: LocalZone, t: Minute) -> Result<T
     }
 }
 
-/// Whether lines of this action have a WHEN bullet.
-fn has_when(action: Action) -> bool
-    ensures { result ≡ has_when action }
+/// Whether lines of this action have a WHEN bullet: all actions but CAN, EXP, UPG and ROU.
+fn has_when_bullet(action: Action) -> bool
+    ensures { result ≡ has_when_bullet action }
 {
     !matches!(
         action,
@@ -79,19 +83,23 @@ fn has_when(action: Action) -> bool
     )
 }
 
-/// Returns the words of a line's period, which its headline and its WHEN bullet share. Empty for
-/// CAN, EXP, UPG and ROU.
+/// Returns the words of a line's period, as `until E`, which its headline and its WHEN bullet
+/// share. Empty for CAN, EXP, UPG and ROU. `t` is the product's issue minute, and times are local
+/// times of `zone`.
 fn line_period_text(alloc: Global, l: &SegLine, zone: LocalZone, t: Minute) -> Result<Text, Oom>
     ensures { IfOk result (λ text. text ≡ line_period_text l.now zone t) }
 {
-    if has_when(l.action) {
+    if has_when_bullet(l.action) {
         period_text(alloc, zone, t, &l.begin, &l.end)
     } else {
         Ok(Text::new(alloc))
     }
 }
 
-/// Returns the headline of a line before it is wrapped. `period` are the words of its period.
+/// Returns the headline of a line in a product of issue minute `t` before it is wrapped; empty for
+/// ROU. `period` must be the words of the line's period, as `until E`, or empty for CAN, EXP and
+/// UPG; the end in the headline of an EXP line is a local time of `zone`. The desk must issue the
+/// line's hazard.
 #[tactic(auto, unfolding(crate::specs::Headlines::headline_of))]
 fn headline_with(
     alloc: Global,
@@ -106,21 +114,28 @@ fn headline_with(
 {
     let name = name_text(l.event.hazard);
     match l.action {
-        Action::New | Action::Exa | Action::Exb => stated(alloc, name, b" in effect ", period),
-        Action::Ext => stated(alloc, name, b" now in effect ", period),
-        Action::Con | Action::Cor => stated(alloc, name, b" remains in effect ", period),
-        Action::Can => told_text(alloc, name, b" is cancelled"),
-        Action::Upg => told_text(alloc, name, b" is upgraded"),
+        Action::New | Action::Exa | Action::Exb => standing_headline(
+            alloc,
+            name,
+            b" in effect ",
+            period,
+        ),
+        Action::Ext => standing_headline(alloc, name, b" now in effect ", period),
+        Action::Con | Action::Cor => standing_headline(alloc, name, b" remains in effect ", period),
+        Action::Can => past_headline(alloc, name, b" is cancelled"),
+        Action::Upg => past_headline(alloc, name, b" is upgraded"),
         Action::Exp => {
             let what = expiry_text(alloc, &l.end, zone, t)?;
-            told_text(alloc, name, what.as_slice())
+            past_headline(alloc, name, what.as_slice())
         }
         Action::Rou => Ok(Text::new(alloc)),
     }
 }
 
-/// Returns the headline of a line in a product of minute `t`, wrapped, with LF between its lines
-/// and none at the end. Times are local times of `zone`. Empty for ROU.
+/// Returns the headline of a line in a product of issue minute `t`, on lines of at most 66
+/// characters with LF between them and none at the end; empty for ROU. Times are local times of
+/// `zone`. The desk must issue the line's hazard, and an EXP line must not end until further
+/// notice.
 ///
 /// # Errors
 ///
@@ -137,7 +152,8 @@ pub fn headline(alloc: Global, l: &SegLine, zone: LocalZone, t: Minute) -> Resul
     wrapped(alloc, text.as_slice())
 }
 
-/// Appends a text with its first letter in upper case.
+/// Appends a text whose first byte, if it is a letter a to z, is made upper case; nothing if the
+/// text is empty.
 fn push_capital(out: &mut Text, text: &[u8]) -> Result<(), Oom>
     ensures { OnOk result (out.new ≡ out.old ++ capital text.now) }
 {
@@ -150,11 +166,12 @@ fn push_capital(out: &mut Text, text: &[u8]) -> Result<(), Oom>
     }
 }
 
-/// Returns the WHEN bullet of a line before it is wrapped. `period` are the words of its period.
-fn when_with(alloc: Global, l: &SegLine, period: &Text) -> Result<Text, Oom>
-    ensures { IfOk result (λ text. text ≡ when_with l.now.action period.now) }
+/// Returns the WHEN bullet of a line before it is wrapped, as `* WHEN...Until E.`; empty for CAN,
+/// EXP, UPG and ROU. `period` are the words of the line's period, as `until E`.
+fn when_bullet_text(alloc: Global, l: &SegLine, period: &Text) -> Result<Text, Oom>
+    ensures { IfOk result (λ text. text ≡ when_bullet_text l.now.action period.now) }
 {
-    if !has_when(l.action) {
+    if !has_when_bullet(l.action) {
         return Ok(Text::new(alloc));
     }
     let mut text = empty_text(alloc, PERIOD_ROOM)?;
@@ -164,8 +181,8 @@ fn when_with(alloc: Global, l: &SegLine, period: &Text) -> Result<Text, Oom>
     Ok(text)
 }
 
-/// Returns the WHEN bullet of a line in a product of minute `t`, as
-/// `* WHEN...Until 600 PM EST Wed Jan 3.`, wrapped, with LF between its lines and none at the end.
+/// Returns the WHEN bullet of a line in a product of issue minute `t`, as `* WHEN...Until 600 PM
+/// EST Wed Jan 3.`, on lines of at most 66 characters with LF between them and none at the end.
 /// Times are local times of `zone`. Empty for CAN, EXP, UPG and ROU.
 ///
 /// # Errors
@@ -178,7 +195,7 @@ pub fn when_bullet(alloc: Global, l: &SegLine, zone: LocalZone, t: Minute) -> Re
     ensures { IfOk result (λ text. text ≡ wrapped (when_of l.now zone t)) }
 {
     let period = line_period_text(alloc, l, zone, t)?;
-    let text = when_with(alloc, l, &period)?;
+    let text = when_bullet_text(alloc, l, &period)?;
     wrapped(alloc, text.as_slice())
 }
 
@@ -189,7 +206,10 @@ pub struct LineTexts {
     pub when: Text,
 }
 
-/// Returns what `headline` and `when_bullet` return for a line, whose period is written once.
+/// Returns the headline (empty for ROU) and the WHEN bullet (empty for CAN, EXP, UPG and ROU) of a
+/// line in a product of issue minute `t`, both on lines of at most 66 characters with LF between
+/// them and none at the end. Times are local times of `zone`. The desk must issue the line's
+/// hazard.
 ///
 /// # Errors
 ///
@@ -202,7 +222,7 @@ pub fn line_texts(alloc: Global, l: &SegLine, zone: LocalZone, t: Minute) -> Res
 {
     let period = line_period_text(alloc, l, zone, t)?;
     let bare_headline = headline_with(alloc, l, zone, t, &period)?;
-    let bare_when = when_with(alloc, l, &period)?;
+    let bare_when = when_bullet_text(alloc, l, &period)?;
     let headline = wrapped(alloc, bare_headline.as_slice())?;
     let when = wrapped(alloc, bare_when.as_slice())?;
     Ok(LineTexts { headline, when })

@@ -6,11 +6,12 @@ ghost use Rattle.headline_text.specs.Wrapping.{words, wrapped};
 ghost use Rattle.headline_text.specs.NameLines.{name_lines, AreOfNames, EndsInHyphen};
 ghost use Rattle.headline_text.specs.Lines.{lines, has_word, is_one_line, without_blanks, without_breaks, EndWhereFull};
 
-/// A test that blanks, LF and all bytes of the text pass holds for all bytes of the wrapped text,
-/// and a first byte that is no blank stays the first. Of a text without LF the bytes but blanks and
-/// LF are the same in the same order, no line has more than 66 characters, each line after the
-/// first starts with two blanks, and each has a word if the text has one. If no word has more than
-/// 64 characters either, no word is cut, and a line ends only where the next word does not fit.
+/// A wrapped text has no bytes but those of the text, blanks and LF, and starts with the text's
+/// first byte if that is no blank. If the text has no LF, the bytes other than blanks and LF are
+/// the same in the same order, no line has more than 66 characters, each line after the first
+/// starts with two blanks, and each line has a word if the text has one. If moreover no word has
+/// more than 64 characters, no word is cut, and a line ends only where the next word does not fit
+/// on it.
 pub fn wrapping_keeps_words()
     ensures bytes { (p : ℕ → Bool) (text : List ℕ) →
         p 32 ≡ true → p 10 ≡ true → IsTrue (list_all p text) → IsTrue (list_all p (wrapped text)) }
@@ -33,10 +34,10 @@ pub fn wrapping_keeps_words()
         EndWhereFull (lines (wrapped text)) }
 {}
 
-/// A test that the hyphen, LF and all bytes of the names pass holds for all bytes of the lines, and
-/// the first byte of the first name stays the first. If no name has an LF, each name is whole on
-/// one line with its hyphen, in order, and each line ends with a hyphen if there is a name. If no
-/// name has more than 65 characters either, no line has more than 66.
+/// The lines of names have no bytes but those of the names, hyphens and LF, and start with the
+/// first byte of the first name, if that name is not empty. If no name has an LF, each name with a
+/// hyphen after it is whole on one line, the names are in order, and each line ends with a hyphen
+/// if there is a name. If moreover no name has more than 65 characters, no line has more than 66.
 pub fn names_stay_whole()
     ensures bytes { (p : ℕ → Bool) (names : List (List ℕ)) →
         p 45 ≡ true → p 10 ≡ true → All (λ name. IsTrue (list_all p name)) names →

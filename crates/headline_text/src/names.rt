@@ -1,5 +1,5 @@
 //! Writes the names of zones on lines.
-ghost use Rattle.std.specs.Prelude.{◌≡◌, ◌≤◌, ◌<◌, ◌^◌, ◌++◌, map, length, OnOk, IfOk};
+ghost use Rattle.std.specs.Prelude.{◌≡◌, ◌<◌, ◌++◌, map, OnOk, IfOk};
 ghost use Rattle.headline_text.specs.NameLines.{name_part, name_column, name_lines};
 
 use hazard_types::{Oom, Text};
@@ -8,9 +8,9 @@ use std::alloc::Global;
 /// The greatest length of a line, in characters.
 const WIDTH: usize = 66;
 
-/// Appends a name and its hyphen, after an LF if the line has a name already and would become
-/// longer than `WIDTH`. `column` is the length of the line before, and the length after is
-/// returned.
+/// Appends a name and a hyphen; before them an LF, if the line has a name already and would become
+/// longer than 66 characters. `column` is how many characters the line has so far; returns how many
+/// the last line then has.
 fn put(out: &mut Text, column: usize, name: &[u8]) -> Result<usize, Oom>
     ensures text { OnOk result (out.new ≡ out.old ++ name_part column name.now) }
     ensures column { IfOk result (λ next. next ≡ name_column column name.now) }

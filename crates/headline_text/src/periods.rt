@@ -16,7 +16,8 @@ pub(crate) fn empty_text(alloc: Global, room: usize) -> Result<Text, Oom>
     Ok(Text::from_vec(Vec::with_capacity(alloc, room)?))
 }
 
-/// Returns `until E`, or `until further notice`.
+/// Returns `until E`, where E is the end as a local time of `zone`, as `600 PM EST Wed Jan 3`, or
+/// `until further notice` if it is that.
 fn until_text(alloc: Global, zone: LocalZone, end: &End) -> Result<Text, Oom>
     ensures { IfOk result (λ text. text ≡ until_of zone end.now) }
 {
@@ -31,7 +32,8 @@ fn until_text(alloc: Global, zone: LocalZone, end: &End) -> Result<Text, Oom>
     }
 }
 
-/// Returns `from B to E`, or `from B until further notice`.
+/// Returns `from B to E`, where B and E are begin and end as local times of `zone`, as `600 PM EST
+/// Wed Jan 3`, or `from B until further notice`.
 fn from_text(alloc: Global, zone: LocalZone, begin: Minute, end: &End) -> Result<Text, Oom>
     ensures { IfOk result (λ text. text ≡ from_of zone begin end.now) }
 {
@@ -48,9 +50,10 @@ fn from_text(alloc: Global, zone: LocalZone, begin: Minute, end: &End) -> Result
     Ok(text)
 }
 
-/// Returns the words of a period in a product of minute `t`: `until E` if its begin has come, else
-/// `from B to E`, and without an end `until further notice` or `from B until further notice`. A
-/// begin of `None` has come. Times are local times of `zone`, as `600 PM EST Wed Jan 3`.
+/// Returns the words of a period in a product of issue minute `t`: `until E` if its begin is `t`,
+/// earlier or `None`, else `from B to E`. With an end until further notice they are `until further
+/// notice` or `from B until further notice`. Times are local times of `zone`, as `600 PM EST Wed
+/// Jan 3`.
 ///
 /// # Errors
 ///

@@ -14,8 +14,9 @@ const WHOLE: usize = 64;
 /// The bytes between a line and the next, which starts with two blanks.
 const NEXT_LINE: &[u8] = b"\n  ";
 
-/// Whether a word fits on the line after one blank. A word that may be cut fits if one character
-/// does.
+/// Whether a word fits after one blank on a line of at most 66 characters that has `column`
+/// characters so far. Of a word of more than 64 characters, which may be cut, only one character
+/// must fit.
 fn fits_after(column: usize, word: &[u8]) -> bool
     requires { column ≤ 66 }
     ensures { result ≡ fits_after column word.now }
@@ -24,8 +25,9 @@ fn fits_after(column: usize, word: &[u8]) -> bool
     column + 1 + room <= WIDTH
 }
 
-/// Appends what comes before a word: nothing on an empty line, a blank, or the start of the next
-/// line. Returns the column at which the word starts.
+/// Appends what comes before a word on a line that has `column` characters so far: nothing if it
+/// has none, a blank if the word fits after one, else LF and two blanks. Returns how many
+/// characters the last line then has.
 fn begin(out: &mut Text, column: usize, word: &[u8]) -> Result<usize, Oom>
     requires { column ≤ 66 }
     ensures text { OnOk result (out.new ≡ out.old ++ lead column word.now) }
@@ -44,8 +46,9 @@ fn begin(out: &mut Text, column: usize, word: &[u8]) -> Result<usize, Oom>
     }
 }
 
-/// Appends a character, on the next line if this one is full. Returns the column after it.
-fn put_byte(out: &mut Text, column: usize, byte: u8) -> Result<usize, Oom>
+/// Appends a character to a line that has `column` characters so far, or to a next line, after LF
+/// and two blanks, if that has 66. Returns how many characters the last line then has.
+fn write_byte(out: &mut Text, column: usize, byte: u8) -> Result<usize, Oom>
     requires { column ≤ 66 }
     ensures text { OnOk result (out.new ≡ out.old ++ fill column (byte ∷ [])) }
     ensures column { IfOk result (λ next. next ≡ behind column (byte ∷ [])) }
@@ -61,7 +64,9 @@ fn put_byte(out: &mut Text, column: usize, byte: u8) -> Result<usize, Oom>
     }
 }
 
-/// Appends characters, on the next lines if this one is full. Returns the column after them.
+/// Appends the characters of a word to a line that has `column` characters so far, and begins a
+/// next line, with LF and two blanks, wherever a line has 66. Returns how many characters the last
+/// line then has.
 fn fill(out: &mut Text, column: usize, word: &[u8]) -> Result<usize, Oom>
     requires { column ≤ 66 }
     ensures text { OnOk result (out.new ≡ out.old ++ fill column word.now) }
@@ -74,12 +79,15 @@ fn fill(out: &mut Text, column: usize, word: &[u8]) -> Result<usize, Oom>
     }
     let mut next = column;
     for byte in word {
-        next = put_byte(out, next, *byte)?;
+        next = write_byte(out, next, *byte)?;
     }
     Ok(next)
 }
 
-/// Appends a word, on the next line if it does not fit. Returns the column after it.
+/// Appends a word to a line that has `column` characters so far: at its start if it has none, after
+/// a blank if the word fits there, else on a next line, after LF and two blanks. A word of more
+/// than 64 characters is cut where a line is full, and an empty word appends nothing. Returns how
+/// many characters the last line then has.
 fn put(out: &mut Text, column: usize, word: &[u8]) -> Result<usize, Oom>
     requires { column ≤ 66 }
     ensures text { OnOk result (out.new ≡ out.old ++ part column word.now) }
@@ -93,8 +101,10 @@ fn put(out: &mut Text, column: usize, word: &[u8]) -> Result<usize, Oom>
     fill(out, first, word)
 }
 
-/// Whether the word from `start` to `end` comes after one blank in the text, and fits on the line
-/// in the same way. `to` is the end of the word before it, which ends at `column`.
+/// Whether the word `text[start..end]` comes after exactly one blank, the byte at `to`, and fits
+/// whole on the current line of at most 66 characters, so that blank and word can be copied as they
+/// stand. `to` is the index in `text` up to which it is laid out already, and the line has `column`
+/// characters by then. False if `column` is 0 or the word is empty.
 fn follows(text: &[u8], column: usize, to: usize, start: usize, end: usize) -> bool
     requires column { column ≤ 66 }
     requires to { to ≤ end }

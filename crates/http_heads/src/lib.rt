@@ -10,14 +10,15 @@ ghost use Rattle.http_heads.specs.Fields.{same_letters};
 
 use httparse::spans::HeaderSpan;
 
-// Whether these are the same letters, in any letter case.
+/// Whether the two texts are equal, where the case of ASCII letters does not count.
 fn same_letters(one: &[u8], other: &[u8]) -> bool
     ensures { result ≡ same_letters one.now other.now }
 {
     one.eq_ignore_ascii_case(other)
 }
 
-/// Whether the field has this name, in any letter case.
+/// Whether the field has this name, in any letter case. `buf` has the bytes of the head, and
+/// `field` tells where in them the field's name and value are.
 pub fn is_named(buf: &[u8], field: &HeaderSpan, name: &[u8]) -> bool
     requires { IsHeaderWithin (length buf.now) field.now }
     ensures { result ≡ is_named name.now (header_bytes buf.now field.now) }
@@ -25,7 +26,8 @@ pub fn is_named(buf: &[u8], field: &HeaderSpan, name: &[u8]) -> bool
     same_letters(field.name.of(buf), name)
 }
 
-/// Whether a field has this name, in any letter case.
+/// Whether one of the fields has this name, in any letter case. `buf` has the bytes of the head,
+/// and `fields` tell where in them the names and values are.
 pub fn has_field(buf: &[u8], fields: &[HeaderSpan], name: &[u8]) -> bool
     requires { All (IsHeaderWithin (length buf.now)) fields.now }
     ensures { result ≡ has_field name.now (map (header_bytes buf.now) fields.now) }
@@ -38,7 +40,8 @@ pub fn has_field(buf: &[u8], fields: &[HeaderSpan], name: &[u8]) -> bool
     false
 }
 
-// Whether the field is `Connection: close`.
+/// Whether the field is `Connection: close`, in any letter case. `buf` has the bytes of the head,
+/// and `field` tells where in them the field's name and value are.
 fn asks_to_close(buf: &[u8], field: &HeaderSpan) -> bool
     requires { IsHeaderWithin (length buf.now) field.now }
     ensures { result ≡ asks_to_close (header_bytes buf.now field.now) }
@@ -46,7 +49,8 @@ fn asks_to_close(buf: &[u8], field: &HeaderSpan) -> bool
     is_named(buf, field, b"connection") && same_letters(field.value.of(buf), b"close")
 }
 
-/// Whether a field is `Connection: close`, in any letter case.
+/// Whether one of the fields is `Connection: close`, in any letter case. `buf` has the bytes of the
+/// head, and `fields` tell where in them the names and values are.
 pub fn has_close(buf: &[u8], fields: &[HeaderSpan]) -> bool
     requires { All (IsHeaderWithin (length buf.now)) fields.now }
     ensures { result ≡ has_close (map (header_bytes buf.now) fields.now) }

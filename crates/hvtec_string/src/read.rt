@@ -1,20 +1,21 @@
 //! Reads H-VTEC strings.
-ghost use Rattle.std.specs.Prelude.{◌≡◌, ◌&&◌, ◌||◌, ◌≤◌, ◌<◌, ◌==◌, ◌∷◌, [], length, slice_index, codes, bytes_eq, true, Some, IfSome};
+ghost use Rattle.std.specs.Prelude.{◌≡◌, ◌<◌, ◌==◌, length, true, Some, IfSome};
 ghost use Rattle.hazard_types.specs.declared.line.Flood.{Flood as Values};
 ghost use Rattle.hvtec_string.specs.Columns.{separators, has_columns, cause_at, values, hvtec_of, IsHvtec};
 
 use crate::columns::{BEGIN, CAUSE, CREST, END, LENGTH, LOCATION, SEVERITY, STATUS};
-use hazard_types::{Cause, Flood, Minute, Severity, Status, parse_location, time_in};
+use hazard_types::{Cause, Flood, Minute, Severity, Status, parse_location, parse_time};
 
-/// Returns the immediate cause, or `None` if a character is not A-Z.
-fn cause_of(text: &[u8]) -> Option<Cause>
+/// Returns the immediate cause whose two letters are `text`, or `None` if one of them is not A-Z.
+/// `text` must be two bytes.
+fn parse_cause(text: &[u8]) -> Option<Cause>
     requires { length text.now ≡ 2 }
     ensures { result ≡ cause_at text.now }
 {
     Cause::new([text[0], text[1]])
 }
 
-/// Whether length and separators are those of an H-VTEC string.
+/// Whether the length is 54 bytes and the slashes and dots are where an H-VTEC string has them.
 #[tactic(auto, unfolding(crate::specs::Columns::has_columns))]
 fn has_columns(bytes: &[u8]) -> bool
     ensures value { result ≡ has_columns bytes.now }
@@ -29,7 +30,9 @@ fn has_columns(bytes: &[u8]) -> bool
     separators == *b"/....../"
 }
 
-/// Returns the values of all columns, or `None` if one of them is missing.
+/// Returns the values of an H-VTEC string, put together from those of its columns, or `None` if one
+/// of the arguments is `None`. `site` is the code of the location, and a time of `Some(None)` is
+/// one of zeros.
 pub fn hvtec_values(
     site: Option<[u8; 5]>,
     severity: Option<Severity>,
@@ -52,6 +55,8 @@ pub fn hvtec_values(
     })
 }
 
+/// Returns the values of an H-VTEC string, or `None` if `bytes` are not 54, a separator is wrong or
+/// a column has no value. A time of zeros is `None`.
 #[tactic(auto, unfolding(crate::specs::Columns::hvtec_of))]
 fn values_of(bytes: &[u8]) -> Option<Flood>
     ensures { result ≡ hvtec_of bytes.now }
@@ -62,16 +67,17 @@ fn values_of(bytes: &[u8]) -> Option<Flood>
     hvtec_values(
         parse_location(&bytes[LOCATION]),
         Severity::from_code(&bytes[SEVERITY..SEVERITY + 1]),
-        cause_of(&bytes[CAUSE]),
-        time_in(&bytes[BEGIN]),
-        time_in(&bytes[CREST]),
-        time_in(&bytes[END]),
+        parse_cause(&bytes[CAUSE]),
+        parse_time(&bytes[BEGIN]),
+        parse_time(&bytes[CREST]),
+        parse_time(&bytes[END]),
         Status::from_code(&bytes[STATUS]),
     )
 }
 
-/// Parses an H-VTEC string: 54 bytes, from slash to slash, without a line end. `None` if `bytes` is
-/// not one. Any two capital letters are a cause, and a time of zeros is `None`.
+/// Returns the values of an H-VTEC string: 54 bytes, from slash to slash, without a line end.
+/// `None` if `bytes` is not one. Any two capital letters are a cause, and a time of zeros is
+/// `None`.
 ///
 /// Source: NWS Instruction 10-1703, H-VTEC.
 #[tactic(auto, using(crate::proofs::Laying::values_found, crate::proofs::Laying::hvtec_hit))]

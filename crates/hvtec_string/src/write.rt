@@ -8,7 +8,9 @@ ghost use Rattle.hvtec_string.specs.Columns.{hvtec_text, IsHvtec};
 use crate::columns::{BEGIN, CAUSE, CREST, END, LENGTH, LOCATION, SEVERITY, STATUS};
 use hazard_types::{Flood, time_text};
 
-/// Returns the template with the values in its columns.
+/// Returns the H-VTEC string of `h`, 54 bytes from slash to slash: a template with each value in
+/// its columns, and zeros for a time of `None`. The site is written as it is, whatever bytes it
+/// has.
 #[tactic(auto, unfolding(crate::specs::Columns::hvtec_text))]
 fn filled_template(h: &Flood) -> [u8; LENGTH]
     ensures value { result ≡ hvtec_text h.now }
@@ -28,8 +30,9 @@ fn filled_template(h: &Flood) -> [u8; LENGTH]
     text
 }
 
-/// Returns the 54 columns of `h`, whatever bytes its site has. This is `hvtec_text` without its
-/// condition on the site.
+/// Returns the H-VTEC string of `h`, 54 bytes from slash to slash, without a line end. A time of
+/// `None` is written as zeros, `000000T0000Z`. The site is written as it is, also if it is not a
+/// code of a location.
 pub fn hvtec_columns(h: &Flood) -> [u8; LENGTH]
     ensures { result ≡ hvtec_text h.now }
 {
@@ -37,7 +40,8 @@ pub fn hvtec_columns(h: &Flood) -> [u8; LENGTH]
 }
 
 /// Returns the H-VTEC string of `h`, 54 bytes from slash to slash, without a line end. A time of
-/// `None` is written as zeros, `000000T0000Z`.
+/// `None` is written as zeros, `000000T0000Z`. The site must be a code of a location: five
+/// characters of A-Z and 0-9.
 ///
 /// Source: NWS Instruction 10-1703, H-VTEC.
 pub fn hvtec_text(h: &Flood) -> [u8; LENGTH]

@@ -1,8 +1,8 @@
 //! Reads a journal from a disk, record by record.
-ghost use Rattle.std.specs.Prelude.{◌≡◌, ◌⊎◌, ◌↔◌, ◌+◌, ◌<◌, ℕ, List, Option, None, Some, [], ◌∷◌, ◌++◌, length, IfOk, OnOk, IsTrue};
+ghost use Rattle.std.specs.Prelude.{◌≡◌, ◌+◌, ◌<◌, ℕ, List, Some, length, IfOk, OnOk};
 ghost use Rattle.std.specs.Int.{w32, to_be_bytes, from_be_bytes};
 ghost use Rattle.desk_traits.specs.Crash.{Passes};
-ghost use Rattle.desk_traits.specs.File.{Same, IsWithin, IsLength, Only};
+ghost use Rattle.desk_traits.specs.File.{Same, IsLength};
 ghost use Rattle.journal_core.specs.declared.adopt.ReadFault.TheVariants.{Failing, Memory};
 
 use crate::create::{Start, look};
@@ -61,15 +61,18 @@ pub(crate) enum Found {
 ghost use Rattle.journal_core.specs.Image.{Fresh};
 ghost use Rattle.journal_core.specs.Adopt.{Counts, Steps, Ends, IsFound, IsGated, Settles};
 
-/// Returns the number that four bytes are, most significant first.
-fn size_of(head: [u8; 4]) -> u32
+/// Returns the length in bytes of a record's body, which `head`, the four bytes after its gate,
+/// write with the most significant byte first.
+fn body_length_of(head: [u8; 4]) -> u32
     ensures value { result ≡ from_be_bytes w32 head }
     ensures back { to_be_bytes w32 result ≡ head }
 {
     u32::from_be_bytes(head)
 }
 
-/// Reads what is at the place `at` of a file of `n` bytes.
+/// Returns what is at byte `at`, from 0, of a file of `n` bytes: the body of a whole record with a
+/// byte after it, a gate that is not `G` (`Shut`), or a gate `G` without such a record (`Cut`).
+/// `at` is below `n`. Errs if a call of the disk fails or memory runs out.
 fn read_record<D: Disk>(alloc: Global, disk: &mut D, at: u64, n: u64) -> Result<Step, ReadFault>
     requires place { at < n }
     requires length { IsLength n (D.seen disk.old) }
@@ -90,7 +93,7 @@ fn read_record<D: Disk>(alloc: Global, disk: &mut D, at: u64, n: u64) -> Result<
     }
     let mut head = [0; 4];
     disk.read_at(at + 1, &mut head)?;
-    let size = size_of(head);
+    let size = body_length_of(head);
     if n - at - 6 < u64::from(size) {
         return Ok(Step::Cut);
     }
@@ -99,7 +102,9 @@ fn read_record<D: Disk>(alloc: Global, disk: &mut D, at: u64, n: u64) -> Result<
     Ok(Step::Body(List::from_vec(body)))
 }
 
-/// Reads the whole file of `n` bytes, which is not fresh.
+/// Returns what a file of `n` bytes that is not fresh is: `Whole`, a journal, with its bodies in
+/// order and the byte of its last gate, or `Damaged` at a byte. Bytes count from 0. Errs if a call
+/// of the disk fails or memory runs out.
 fn scan<D: Disk>(alloc: Global, disk: &mut D, n: u64) -> Result<Found, ReadFault>
     requires { IsLength n (D.seen disk.old) }
     ensures seen { D.seen disk.new ≡ D.seen disk.old }
@@ -130,7 +135,9 @@ fn scan<D: Disk>(alloc: Global, disk: &mut D, n: u64) -> Result<Found, ReadFault
     Ok(Found::Damaged { at })
 }
 
-/// Syncs the disk and reads the whole file.
+/// Syncs the disk and returns what its file is: `Unmade` if it is fresh, `Whole` with the bodies in
+/// order and the byte of the last gate if it is a journal, else `Damaged` at a byte. Bytes count
+/// from 0, and nothing is written. Errs if a call of the disk fails or memory runs out.
 pub(crate) fn find<D: Disk>(alloc: Global, disk: &mut D) -> Result<Found, ReadFault>
     ensures seen { D.seen disk.new ≡ D.seen disk.old }
     ensures found { (file : List ℕ) → D.seen disk.old ≡ Some file → IfOk result

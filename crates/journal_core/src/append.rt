@@ -1,10 +1,10 @@
 //! Appends bodies to a journal.
-ghost use Rattle.std.specs.Prelude.{◌≡◌, ◌⊎◌, ◌+◌, ◌<◌, ◌≤◌, ◌↔◌, ℕ, List, Option, None, Some, option_map, [], ◌∷◌, ◌++◌, length, IfOk, IfErr, OnOk, OnErr, MatchResult, IsTrue, IsErrOf};
+ghost use Rattle.std.specs.Prelude.{◌≡◌, ◌⊎◌, ◌+◌, ◌<◌, ◌≤◌, ◌↔◌, ℕ, List, Option, None, Some, option_map, [], ◌∷◌, ◌++◌, length, OnOk, OnErr, MatchResult, IsTrue, IsErrOf};
 ghost use Rattle.desk_traits.specs.Crash.{LeavesOnly};
 ghost use Rattle.desk_traits.specs.Faults.{HasCause, Rose};
 ghost use Rattle.desk_traits.specs.File.{IsWithin, Only};
-ghost use Rattle.journal_core.specs.Image.{Image, Half, IsOneOf, Fresh};
-ghost use Rattle.journal_core.specs.Journal.{StandsFor, IsStaged, MayPend, Rests, LeavesBodies};
+ghost use Rattle.journal_core.specs.Image.{Image, Half, IsOneOf};
+ghost use Rattle.journal_core.specs.Journal.{IsStaged, MayPend, Rests, LeavesBodies};
 ghost use Rattle.journal_core.specs.Packet.{framed};
 ghost use Rattle.journal_core.specs.Written.{put, with_record};
 ghost use Rattle.journal_core.specs.Kept.{disk_of, gate_of, Keeps};
@@ -27,14 +27,14 @@ impl From<Failed> for AppendFault {
 }
 
 impl<D: Disk> Journal<D> {
-    /// Whether a body of `n` bytes has room: with it the file would have at most `LIMIT` bytes.
+    /// Whether a body of `n` bytes has room: with it the file would have at most 268,435,456 bytes.
     pub fn room(&self, n: usize) -> bool
         ensures { IsTrue result ↔ (gate_of self.now + 6 + n ≤ 268435456) }
     {
         self.gate <= LIMIT - 6 && n as u64 <= LIMIT - 6 - self.gate
     }
 
-    /// Appends a body, durably. Takes no memory.
+    /// Appends a body and syncs it, so that no crash loses it. Allocates no memory.
     ///
     /// # Errors
     ///
@@ -101,7 +101,9 @@ impl<D: Disk> Journal<D> {
         Ok(())
     }
 
-    /// Closes the last gate if it may be open since a fault.
+    /// Writes a closed gate, the byte `.`, over the last gate and syncs, if a fault of the disk has
+    /// left it unknown whether that gate is open. Otherwise nothing is written. Errs if a call of
+    /// the disk fails.
     fn close(&mut self) -> Result<(), Failed>
         ensures put { OnOk result
             ((D.seen self.new.disk ≡ D.seen self.old.disk)
@@ -129,7 +131,9 @@ impl<D: Disk> Journal<D> {
         Ok(())
     }
 
-    /// Writes the body after the closed gate, and syncs.
+    /// Writes the body's length, the body and a closed gate behind the last gate, which must be
+    /// closed, and syncs. The body is not in the journal until `open` opens the gate before it.
+    /// Errs if a call of the disk fails; the bodies of the journal are then as before.
     fn stage(&mut self, body: &Packet) -> Result<(), Failed>
         requires { self.old.gate + 6 + length body.now ≤ 268435456 }
         ensures put { OnOk result
@@ -152,7 +156,9 @@ impl<D: Disk> Journal<D> {
         write_synced(&mut self.disk, self.gate + 1, body.framed())
     }
 
-    /// Opens the gate before the body that was written after it, and syncs.
+    /// Writes an open gate, the byte `G`, before the body that `stage` has just written, and syncs.
+    /// The body is then in the journal, and the gate after it is the last one. Errs if a call of
+    /// the disk fails; a crash may then leave the journal with the body or without it.
     fn open(&mut self, body: &Packet) -> Result<(), Failed>
         requires within { IsWithin (self.old.gate + 6 + length body.now)
             (D.seen (disk_of self.old)) }

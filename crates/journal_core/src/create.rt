@@ -1,7 +1,7 @@
 //! Makes the file of a journal on a fresh disk.
-ghost use Rattle.std.specs.Prelude.{◌≡◌, ◌⊎◌, ◌↔◌, ◌+◌, ◌<◌, ◌≤◌, ℕ, List, Option, None, Some, option_map, [], ◌∷◌, ◌++◌, length, IfOk, OnOk, IsTrue, IsErrOf, false};
+ghost use Rattle.std.specs.Prelude.{◌≡◌, ◌⊎◌, ◌↔◌, ◌+◌, ◌<◌, ◌≤◌, ℕ, List, Some, option_map, [], ◌∷◌, length, IfOk, OnOk, IsTrue, false};
 ghost use Rattle.desk_traits.specs.Crash.{Passes, LeavesOnly};
-ghost use Rattle.desk_traits.specs.Faults.{HasCause, Rose};
+ghost use Rattle.desk_traits.specs.Faults.{HasCause};
 ghost use Rattle.desk_traits.specs.File.{Same, IsWithin, Only};
 
 use crate::packet::Packet;
@@ -18,7 +18,8 @@ pub(crate) enum Start {
 ghost use Rattle.journal_core.specs.Create.{Starts};
 ghost use Rattle.journal_core.specs.Adopt.{Settles};
 
-/// Syncs the disk and reads how its file starts.
+/// Syncs the disk and returns how its file starts: `Short` if it has at most one byte, else `Begun`
+/// if it starts with `.`, else `Other`. Nothing is written. Errs if a call of the disk fails.
 pub(crate) fn look<D: Disk>(disk: &mut D) -> Result<Start, Failed>
     ensures seen { D.seen disk.new ≡ D.seen disk.old }
     ensures start { IfOk result (λ start. Starts start (D.seen disk.old)) }
@@ -48,7 +49,9 @@ ghost use Rattle.journal_core.specs.Image.{Fresh};
 ghost use Rattle.journal_core.specs.Packet.{framed};
 ghost use Rattle.journal_core.specs.Written.{put, with_record};
 
-/// Writes the body after a gate that is not open, and then opens the gate. Syncs after each write.
+/// Writes the first record of a file and syncs: from byte 1 on the body's length, the body and a
+/// closed gate, and only then, with another sync, the open gate `G` at byte 0. Errs if a call of
+/// the disk fails.
 fn first<D: Disk>(disk: &mut D, body: &Packet) -> Result<(), Failed>
     requires within { IsWithin 1 (D.seen disk.old) }
     requires room { length body.now ≤ 268435450 }
@@ -67,7 +70,9 @@ fn first<D: Disk>(disk: &mut D, body: &Packet) -> Result<(), Failed>
     write_synced(disk, 0, b"G")
 }
 
-/// Makes a file of one body if the file is fresh. Returns whether it was.
+/// Writes a journal of one body and returns `true` if the file is fresh (it has at most one byte,
+/// or starts with `.`). Returns `false` if it is not fresh, and writes nothing. Errs if a call of
+/// the disk fails.
 pub(crate) fn make<D: Disk>(disk: &mut D, body: &Packet) -> Result<bool, Failed>
     requires { length body.now ≤ 268435450 }
     ensures fresh { (file : List ℕ) → D.seen disk.old ≡ Some file → IfOk result

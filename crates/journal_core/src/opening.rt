@@ -1,10 +1,9 @@
 //! Makes, opens and closes a journal.
-ghost use Rattle.std.specs.Prelude.{◌≡◌, ◌⊎◌, ◌+◌, ◌<◌, ◌≤◌, ◌↔◌, ℕ, List, Option, None, Some, [], ◌∷◌, ◌++◌, length, IfOk, IfErr, OnOk, OnErr, MatchResult, IsTrue, IsErrOf};
+ghost use Rattle.std.specs.Prelude.{◌≡◌, ◌⊎◌, ◌+◌, ◌<◌, ◌≤◌, ◌↔◌, ℕ, List, None, Some, [], ◌∷◌, length, IfOk, IfErr, OnOk, MatchResult, IsTrue};
 ghost use Rattle.desk_traits.specs.Crash.{LeavesOnly};
 ghost use Rattle.desk_traits.specs.Faults.{HasCause, Rose};
-ghost use Rattle.desk_traits.specs.File.{IsWithin, Only};
-ghost use Rattle.journal_core.specs.Image.{records, Image, Half, IsOneOf, Fresh};
-ghost use Rattle.journal_core.specs.Journal.{StandsFor, IsStaged, MayPend, Rests};
+ghost use Rattle.desk_traits.specs.File.{Only};
+ghost use Rattle.journal_core.specs.Image.{records, Image, Fresh};
 ghost use Rattle.journal_core.specs.Written.{with_record};
 ghost use Rattle.journal_core.specs.Kept.{disk_of, gate_of, Keeps};
 ghost use Rattle.journal_core.specs.Create.{IsMaking};
@@ -47,7 +46,8 @@ impl<D: Disk> Journal<D> {
         }
     }
 
-    /// Makes a journal of one body on a disk with a fresh file.
+    /// Returns a journal of one body, which is made on a disk whose file is fresh: it has at most
+    /// one byte, or starts with `.`.
     ///
     /// # Errors
     ///
@@ -182,7 +182,7 @@ impl<D: Disk> Journal<D> {
         }
     }
 
-    /// Returns the disk.
+    /// Gives up the journal and returns the disk that has its file.
     pub fn into_disk(self) -> D
         ensures { result ≡ disk_of self }
     {

@@ -6,7 +6,7 @@ use Rattle.std.specs.Ordering.{nat_cmp, match_ordering}
 use Rattle.std.specs.Cmp.Lexicographic.{slice_cmp}
 use Rattle.serde_json.specs.Data.{Data, Members, no_members, member, put, number, unsigned}
 use Rattle.serde_json.specs.Written.{has_float, members_have_float}
-use Rattle.json_parts.specs.Written.{as_text, put_text, put_number, labelled}
+use Rattle.json_parts.specs.Written.{as_text, set_text, set_number, refusal_members}
 
 either : (a b : Bool) → (a || b) ≡ false → (a ≡ false) × (b ≡ false)
 either false b h = (refl, h)
@@ -28,11 +28,11 @@ pub text_no_float : (bytes : List ℕ) → has_float (as_text bytes) ≡ false
 unfolding as_text
 text_no_float bytes = refl
 
-pub put_text_no_float : (k : List ℕ) (bytes : List ℕ) (ms : Members) → members_have_float ms ≡ false → members_have_float (put_text k bytes ms) ≡ false
+pub put_text_no_float : (k : List ℕ) (bytes : List ℕ) (ms : Members) → members_have_float ms ≡ false → members_have_float (set_text k bytes ms) ≡ false
 put_text_no_float k bytes ms h = no_float_put k (as_text bytes) ms (text_no_float bytes) h
 
-pub put_number_no_float : (k : List ℕ) (n : ℕ) (ms : Members) → members_have_float ms ≡ false → members_have_float (put_number k n ms) ≡ false
+pub put_number_no_float : (k : List ℕ) (n : ℕ) (ms : Members) → members_have_float ms ≡ false → members_have_float (set_number k n ms) ≡ false
 put_number_no_float k n ms h = no_float_put k (number (unsigned n)) ms refl h
 
-pub labelled_no_float : (l : List ℕ × List ℕ) → members_have_float (labelled l) ≡ false
-labelled_no_float l = put_text_no_float (codes "rule") l.1 (put_text (codes "no") l.0 no_members) (put_text_no_float (codes "no") l.0 no_members refl)
+pub labelled_no_float : (l : List ℕ × List ℕ) → members_have_float (refusal_members l) ≡ false
+labelled_no_float l = put_text_no_float (codes "rule") l.1 (set_text (codes "no") l.0 no_members) (put_text_no_float (codes "no") l.0 no_members refl)

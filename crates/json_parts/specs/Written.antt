@@ -10,15 +10,15 @@ unfoldable pub as_text : List ℕ → Data
 as_text bytes = string (utf8_lossy bytes)
 
 -- the members with one more, a string
-abbrev pub put_text : List ℕ → List ℕ → Members → Members
-put_text key bytes ms = put key (as_text bytes) ms
+abbrev pub set_text : List ℕ → List ℕ → Members → Members
+set_text key bytes ms = put key (as_text bytes) ms
 
-abbrev pub put_number : List ℕ → ℕ → Members → Members
-put_number key n ms = put key (number (unsigned n)) ms
+abbrev pub set_number : List ℕ → ℕ → Members → Members
+set_number key n ms = put key (number (unsigned n)) ms
 
-abbrev pub put_zone : Place → Members → Members
-put_zone z ms = put_text (codes "zone") (zone_text z) ms
+abbrev pub set_zone : Place → Members → Members
+set_zone z ms = set_text (codes "zone") (zone_text z) ms
 
 -- the members of a refusal's code and name
-abbrev pub labelled : List ℕ × List ℕ → Members
-labelled l = put_text (codes "rule") l.1 (put_text (codes "no") l.0 no_members)
+abbrev pub refusal_members : List ℕ × List ℕ → Members
+refusal_members l = set_text (codes "rule") l.1 (set_text (codes "no") l.0 no_members)

@@ -8,7 +8,7 @@ use hazard_types::{List, Oom, Or, Text, Zone, parse_zone};
 use serde_json::Value;
 use std::alloc::Global;
 
-/// Returns the JSON value that the bytes are, or `None` if they are not one JSON value.
+/// Returns the JSON value that the bytes are, or `None` if they are not exactly one JSON value.
 ///
 /// # Errors
 ///
@@ -28,7 +28,8 @@ pub fn read_json(alloc: Global, bytes: &[u8]) -> Result<Option<Value>, Oom>
     }
 }
 
-/// Returns the value of a field, or the field's name if there is none.
+/// Returns the value of the field named `field` if it was found, or errs with that name if `found`
+/// is `None`.
 ///
 /// # Errors
 ///
@@ -42,7 +43,8 @@ pub fn given<T: Drop>(alloc: Global, found: Option<T>, field: &str) -> Result<T,
     }
 }
 
-/// Returns the name of a field that is wrong.
+/// Errs with the name of a field that is missing or has a wrong value. It never returns a value,
+/// and `T` is the type that the caller would have got.
 ///
 /// # Errors
 ///
@@ -53,14 +55,16 @@ pub fn wrong<T: Drop>(alloc: Global, field: &str) -> Result<T, Or<Text>>
     given(alloc, None, field)
 }
 
-/// Returns the member with this key if it is a string.
+/// Returns the string that is the member `key` of an object, or `None` if the member is missing or
+/// no string, or `value` is no object.
 pub fn text_at<'v>(value: &'v Value, key: &str) -> Option<&'v str>
     ensures { option_map (λ s. s.now) result ≡ text_at key.now (view value.now) }
 {
     value.get(key).and_then(Value::as_str)
 }
 
-/// Returns the zones that the strings are, or `None` if one is no zone.
+/// Returns the zones that an array of strings such as `MDZ003` gives, in the order of `values`, or
+/// `None` if one of the values is not a string that names a zone.
 fn zones_of(alloc: Global, values: &[Value]) -> Result<Option<List<Zone>>, Oom>
     ensures { IfOk result (λ zones. zones ≡ zones_of (items_view values.now)) }
 {
@@ -74,7 +78,9 @@ fn zones_of(alloc: Global, values: &[Value]) -> Result<Option<List<Zone>>, Oom>
     Ok(Some(zones))
 }
 
-/// Returns the zones of the member `zones`, or `None` if it is missing or no array of zones.
+/// Returns the zones of the member `zones` of an object, in the order of the array, or `None` if
+/// the member is missing, is no array or has an element that names no zone, or `value` is no
+/// object.
 fn zones_at(alloc: Global, value: &Value) -> Result<Option<List<Zone>>, Oom>
     ensures { IfOk result (λ zones. zones ≡ zones_at (view value.now)) }
 {
@@ -84,7 +90,9 @@ fn zones_at(alloc: Global, value: &Value) -> Result<Option<List<Zone>>, Oom>
     }
 }
 
-/// Returns the zones of the member `zones`, or its name if it is missing or no array of zones.
+/// Returns the zones of the member `zones` of an object, in the order of the array, or errs with
+/// the name `zones` if the member is missing, is no array or has an element that names no zone, or
+/// `value` is no object.
 ///
 /// # Errors
 ///

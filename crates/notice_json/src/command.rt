@@ -34,7 +34,7 @@ pub struct Command {
 }
 
 impl Watch {
-    /// Returns the watch with this code, `TO.A` or `SV.A`.
+    /// Returns the watch with this code, `TO.A` or `SV.A`, or `None` if there is none.
     pub(crate) fn from_code(code: &str) -> Option<Watch>
         ensures { result ≡ watch_at code.now }
     {

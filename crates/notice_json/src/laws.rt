@@ -4,7 +4,7 @@ ghost use Rattle.notice_json.specs.Refusals.{refusal_text};
 
 use crate::refusal::NoticeRefusal;
 
-/// The text of a refusal has no line feed.
+/// Law: the text of any refusal has no LF, so it is one line.
 #[tactic(auto, using(crate::proofs::Floats::refusal_line))]
 pub fn refusal_texts_are_lines()
     ensures { (r : NoticeRefusal) → All (λ (b : ℕ). b ≢ 10) (refusal_text r) }

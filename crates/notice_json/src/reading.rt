@@ -14,14 +14,18 @@ use json_parts::{given, read_json, wrong, zones_field};
 use serde_json::Value;
 use std::alloc::Global;
 
-/// Returns the minute at which a watch ends, or the field's name.
+/// Returns the minute at which the watch ends, from the stamp in the member `end`. Errs with
+/// `Or::No` and the name `end` if the member is missing or no stamp, and otherwise for want of
+/// memory.
 fn end_field(alloc: Global, value: &Value) -> Result<Minute, Or<Text>>
     ensures { Gives result (end_field (view value.now)) }
 {
     given(alloc, minute_at(value, "end"), "end")
 }
 
-/// Returns what the command does, with the end that `open` and `join` have.
+/// Returns what a command with this verb does; for `open` and `join` it has the minute of the stamp
+/// in the member `end`. Errs with `Or::No` and the name `end` if that member is missing or no
+/// stamp. For the verb `end` no member is read.
 fn deed_field(alloc: Global, verb: Verb, value: &Value) -> Result<Deed, Or<Text>>
     ensures { Gives result (deed_field verb (view value.now)) }
 {
@@ -32,8 +36,10 @@ fn deed_field(alloc: Global, verb: Verb, value: &Value) -> Result<Deed, Or<Text>
     }
 }
 
-/// Returns the command that a JSON value is, or the name of the first field that is missing or
-/// wrong.
+/// Returns the command that a JSON value is. Errs with `Or::No` and the name of the first field, in
+/// the order `at`, `do`, `hazard`, `number`, `zones`, `end`, that is missing or wrong, and
+/// otherwise for want of memory. The name is `.` for a value that is not an object, and `?` if only
+/// a key is unknown.
 #[tactic(auto, unfolding(crate::specs::Form::command_in))]
 fn command_in(alloc: Global, value: &Value) -> Result<Command, Or<Text>>
     ensures { Gives result (command_in (view value.now)) }
@@ -47,7 +53,7 @@ fn command_in(alloc: Global, value: &Value) -> Result<Command, Or<Text>>
     let number = given(alloc, number_of(value), "number")?;
     let zones = zones_field(alloc, value)?;
     let deed = deed_field(alloc, verb, value)?;
-    if verb.has_all(members) {
+    if verb.has_only_known_keys(members) {
         Ok(Command {
             at,
             deed,
@@ -60,8 +66,9 @@ fn command_in(alloc: Global, value: &Value) -> Result<Command, Or<Text>>
     }
 }
 
-/// Parses a line, without its LF, as a command. The numbers, minutes and zones of a command are in
-/// their ranges; the length of the line is not checked.
+/// Parses a line, without its LF, as a command about a watch. The minutes, the number and the zones
+/// of the command are in the ranges of their types, and the number is 1 to 9,999. The length of the
+/// line is not checked.
 ///
 /// # Errors
 ///

@@ -1,16 +1,16 @@
 //! The texts of refusals.
 ghost use Rattle.std.specs.Prelude.{◌≡◌, IfOk, OnOk};
 ghost use Rattle.serde_json.specs.View.{members_view};
-ghost use Rattle.notice_json.specs.Refusals.{label, put_minute, put_values, refusal_text};
+ghost use Rattle.notice_json.specs.Refusals.{label, set_minute, set_values, refusal_text};
 
 use crate::refusal::NoticeRefusal;
 use hazard_types::{Minute, Oom, Text, stamp};
 use json_parts::{
-    Members, labelled, put_event_text, put_size, put_text, put_zone, text_of_members,
+    Members, refusal_members, set_event_text, set_size, set_text, set_zone, text_of_members,
 };
 use std::alloc::Global;
 
-/// Returns the code and the name of a refusal.
+/// Returns the code and the name of a refusal, as `J1` and `NotJson`.
 #[tactic(auto, unfolding(crate::specs::Refusals::label))]
 fn label(refusal: &NoticeRefusal) -> (&'static str, &'static str)
     ensures { (result.0.now, result.1.now) ≡ label refusal.now }
@@ -33,31 +33,32 @@ fn label(refusal: &NoticeRefusal) -> (&'static str, &'static str)
     }
 }
 
-/// Sets a member that is a minute's stamp.
-fn put_minute(alloc: Global, members: &mut Members, key: &str, minute: &Minute) -> Result<(), Oom>
+/// Sets the member `key` to the stamp of a minute, as `180103T1530Z`.
+fn set_minute(alloc: Global, members: &mut Members, key: &str, minute: &Minute) -> Result<(), Oom>
     ensures { OnOk result (members_view members.new.entries
-        ≡ put_minute key.now minute.now (members_view members.old.entries)) }
+        ≡ set_minute key.now minute.now (members_view members.old.entries)) }
 {
-    put_text(alloc, members, key, &stamp(*minute))
+    set_text(alloc, members, key, &stamp(*minute))
 }
 
-/// Sets a member for each value of a refusal.
-#[tactic(auto, unfolding(crate::specs::Refusals::put_values))]
-fn put_values(alloc: Global, members: &mut Members, refusal: &NoticeRefusal) -> Result<(), Oom>
+/// Sets a member for each value that a refusal has, under the value's name. Refusals without values
+/// set none.
+#[tactic(auto, unfolding(crate::specs::Refusals::set_values))]
+fn set_values(alloc: Global, members: &mut Members, refusal: &NoticeRefusal) -> Result<(), Oom>
     ensures { OnOk result (members_view members.new.entries
-        ≡ put_values refusal.now (members_view members.old.entries)) }
+        ≡ set_values refusal.now (members_view members.old.entries)) }
 {
     match refusal {
-        NoticeRefusal::WrongShape { field } => put_text(alloc, members, "field", field.as_slice()),
-        NoticeRefusal::TimeOut { minute } => put_minute(alloc, members, "minute", minute),
-        NoticeRefusal::TimeBack { last } => put_minute(alloc, members, "last", last),
+        NoticeRefusal::WrongShape { field } => set_text(alloc, members, "field", field.as_slice()),
+        NoticeRefusal::TimeOut { minute } => set_minute(alloc, members, "minute", minute),
+        NoticeRefusal::TimeBack { last } => set_minute(alloc, members, "last", last),
         NoticeRefusal::NotCounty { zone }
         | NoticeRefusal::LeftBefore { zone }
-        | NoticeRefusal::NotLive { zone } => put_zone(alloc, members, zone),
+        | NoticeRefusal::NotLive { zone } => set_zone(alloc, members, zone),
         NoticeRefusal::NumberUsed { event } | NoticeRefusal::NumberHeld { event } => {
-            put_event_text(alloc, members, "event", event)
+            set_event_text(alloc, members, "event", event)
         }
-        NoticeRefusal::TooLong { bytes } => put_size(alloc, members, "bytes", *bytes),
+        NoticeRefusal::TooLong { bytes } => set_size(alloc, members, "bytes", *bytes),
         NoticeRefusal::LineTooLong
         | NoticeRefusal::NotJson
         | NoticeRefusal::BadZones
@@ -79,7 +80,7 @@ pub fn refusal_text(alloc: Global, refusal: &NoticeRefusal) -> Result<Text, Oom>
     ensures { IfOk result (λ text. text ≡ refusal_text refusal.now) }
 {
     let (no, rule) = label(refusal);
-    let mut members = labelled(alloc, no, rule)?;
-    put_values(alloc, &mut members, refusal)?;
+    let mut members = refusal_members(alloc, no, rule)?;
+    set_values(alloc, &mut members, refusal)?;
     text_of_members(alloc, members)
 }

@@ -8,19 +8,21 @@ ghost use Rattle.notice_json.specs.Values.{minute_at, number_of};
 
 use crate::command::Watch;
 use crate::verb::Verb;
-use hazard_types::{Minute, read_stamp};
+use hazard_types::{Minute, parse_stamp};
 use json_parts::text_at;
 use serde_json::Value;
 
-/// Returns the minute of the member with this key if it is a stamp.
+/// Returns the minute of the member with this key, or `None` if it is missing or no stamp such as
+/// `180103T1530Z`.
 pub fn minute_at(value: &Value, key: &str) -> Option<Minute>
     ensures { result ≡ minute_at key.now (view value.now) }
 {
     let text = text_at(value, key)?;
-    read_stamp(text.as_bytes())
+    parse_stamp(text.as_bytes())
 }
 
-/// Returns the member `number` if it is a whole number from 1 to 9,999.
+/// Returns the number of a watch in the member `number`, or `None` if it is missing or no whole
+/// number from 1 to 9,999.
 pub fn number_of(value: &Value) -> Option<u16>
     ensures { result ≡ number_of (view value.now) }
 {
@@ -36,14 +38,16 @@ pub fn number_of(value: &Value) -> Option<u16>
     }
 }
 
-/// Returns what the member `do` says, if it is `open`, `join` or `end`.
+/// Returns the verb that the member `do` names, or `None` if it is missing or not `open`, `join` or
+/// `end`.
 pub fn verb_of(value: &Value) -> Option<Verb>
     ensures { result ≡ option_and_then verb_at (text_at (codes "do") (view value.now)) }
 {
     text_at(value, "do").and_then(|word| Verb::from_word(word))
 }
 
-/// Returns the watch whose code the member `hazard` is.
+/// Returns the watch whose code is the member `hazard`, or `None` if it is missing or not `TO.A` or
+/// `SV.A`.
 pub fn watch_of(value: &Value) -> Option<Watch>
     ensures { result ≡ option_and_then watch_at (text_at (codes "hazard") (view value.now)) }
 {

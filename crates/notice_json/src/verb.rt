@@ -13,7 +13,8 @@ pub enum Verb {
     End,
 }
 
-/// Whether each line has the key.
+/// Whether the key is one that each line has, whatever its verb: `at`, `do`, `hazard`, `number` or
+/// `zones`.
 fn is_common(key: &str) -> bool
     ensures { result ≡ is_common key.now }
 {
@@ -21,7 +22,7 @@ fn is_common(key: &str) -> bool
 }
 
 impl Verb {
-    /// Returns the verb that the word is.
+    /// Returns the verb that is written `open`, `join` or `end`, or `None` for any other word.
     pub fn from_word(word: &str) -> Option<Verb>
         ensures { result ≡ verb_at word.now }
     {
@@ -33,7 +34,8 @@ impl Verb {
         }
     }
 
-    /// Whether a line with this verb has the key.
+    /// Whether a line with this verb may have the key: `at`, `do`, `hazard`, `number` or `zones`,
+    /// or `end` if the verb is `Open` or `Join`.
     pub fn has_key(self, key: &str) -> bool
         ensures { result ≡ has_key self key.now }
     {
@@ -43,8 +45,9 @@ impl Verb {
         }
     }
 
-    /// Whether a line with this verb has each of these keys.
-    pub fn has_all(self, members: &Map<String, Value>) -> bool
+    /// Whether each key of `members` is one that a line with this verb may have. Missing keys are
+    /// not tested.
+    pub fn has_only_known_keys(self, members: &Map<String, Value>) -> bool
         ensures { result ≡ all_known self (members_view members.now.entries) }
     {
         members.keys().all(|key| self.has_key(key.as_str()))

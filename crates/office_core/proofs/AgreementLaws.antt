@@ -14,7 +14,7 @@ use Rattle.office_types.specs.declared.request.Intent.{Intent}
 use Rattle.office_types.specs.declared.request.Plan.{Plan}
 use Rattle.office_types.specs.declared.request.Sent.{Sent}
 use Rattle.desk_settings.specs.declared.settings.Settings.{Settings}
-use Rattle.event_life.specs.Openings.{is_numbered, numbers_of, opened_by}
+use Rattle.event_life.specs.Openings.{is_numbered, numbers_of, events_opened_by}
 use Rattle.event_life.specs.Products.{by_key, is_new, is_routine, rows_after}
 use Rattle.event_life.specs.Reordered.{are_lawful}
 use Rattle.event_numbers.specs.declared.Count.{Count}
@@ -99,7 +99,7 @@ planned_said c rows counts after intents t can up h draws =
 
 -- ---- the lines of a correction
 
-none_opened : (lines : List Line) → AllByRecursion (λ (line : Line). is_new line.action ≡ false) lines → opened_by lines ≡ []
+none_opened : (lines : List Line) → AllByRecursion (λ (line : Line). is_new line.action ≡ false) lines → events_opened_by lines ≡ []
 none_opened [] all = refl
 none_opened (line ∷ lines) all = rw all.0 (none_opened lines all.1)
 

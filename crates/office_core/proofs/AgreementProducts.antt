@@ -12,7 +12,7 @@ use Rattle.hazard_types.specs.declared.hazard.Hazard.{Hazard}
 use Rattle.hazard_types.specs.declared.line.Line.{Line}
 use Rattle.hazard_types.specs.declared.line.Row.{Row}
 use Rattle.event_life.specs.Lives.{AreLawful, IsLawfulFrom, IsLawfulLife, judged_product}
-use Rattle.event_life.specs.Openings.{IsGapless, counted_from, numbers_of, opened_by, opened_of}
+use Rattle.event_life.specs.Openings.{IsGapless, counted_from, numbers_of, events_opened_by, opened_of}
 use Rattle.event_life.specs.Products.{Product, lawful_of, rows_after, rows_of, rows_with}
 use Rattle.event_life.proofs.AppendLemmas.{opened_from-append}
 use Rattle.event_numbers.specs.declared.Count.{Count}
@@ -34,7 +34,7 @@ pub record Agree (office : List ℕ) (class : Class) (texts : List (List ℕ)) (
 
 -- lines whose events have the numbers behind those that were drawn, and are drawn themselves
 abbrev pub GoOnBy : List Count → List Count → List Line → Type 0
-GoOnBy counts after lines = (h : Hazard) (year : ℕ) → (k : ℕ) × (numbers_of h year (opened_by lines) ≡ counted_from (count_of counts h year + 1) k) × (count_of after h year ≡ count_of counts h year + k)
+GoOnBy counts after lines = (h : Hazard) (year : ℕ) → (k : ℕ) × (numbers_of h year (events_opened_by lines) ≡ counted_from (count_of counts h year + 1) k) × (count_of after h year ≡ count_of counts h year + k)
 
 lawful_more : (rows : List Row) (ps qs : List Product) (e : Event) (z : Place) → IsLawfulFrom rows ps e z → IsLawfulFrom (fold rows_with rows ps) qs e z → IsLawfulFrom rows (ps ++ qs) e z
 lawful_more rows [] qs e z h g = g
@@ -61,12 +61,12 @@ module _ (office : List ℕ) (class : Class) (texts : List (List ℕ)) (text : L
         let own : AreLawful e z (judged_product (rows_of before) p) = subst (λ (rs : List Row). AreLawful e z (judged_product rs p)) (sym same) (each_lawful e z (judged_product rows p) read.lawful) in
         lawful_more [] before (p ∷ []) e z h (own, tt)
 
-    opened_more : opened_of (before ++ p ∷ []) ≡ opened_of before ++ opened_by lines
+    opened_more : opened_of (before ++ p ∷ []) ≡ opened_of before ++ events_opened_by lines
     opened_more =
         opened_from-append [] before (p ∷ [])
         ∙ ap (λ (es : List Event). opened_of before ++ es)
-        (append-nil (opened_by (lawful_of (judged_product (rows_of before) p)))
-        ∙ ap (λ (rs : List Row). opened_by (lawful_of (judged_product rs p))) same
+        (append-nil (events_opened_by (lawful_of (judged_product (rows_of before) p)))
+        ∙ ap (λ (rs : List Row). events_opened_by (lawful_of (judged_product rs p))) same
         ∙ read.opened)
 
     numbers_on : (counts after : List Count) → ((h : Hazard) (year : ℕ) → numbers_of h year (opened_of before) ≡ counted_from 1 (count_of counts h year)) → GoOnBy counts after lines →
@@ -75,8 +75,8 @@ module _ (office : List ℕ) (class : Class) (texts : List (List ℕ)) (text : L
         let o = on h year in
         let turned : count_of counts h year + 1 ≡ 1 + count_of counts h year = omega arith in
         ap (numbers_of h year) opened_more
-        ∙ numbers_more h year (opened_of before) (opened_by lines)
-        ∙ ap (λ (ns : List ℕ). ns ++ numbers_of h year (opened_by lines)) (numbers h year)
+        ∙ numbers_more h year (opened_of before) (events_opened_by lines)
+        ∙ ap (λ (ns : List ℕ). ns ++ numbers_of h year (events_opened_by lines)) (numbers h year)
         ∙ ap (λ (ns : List ℕ). counted_from 1 (count_of counts h year) ++ ns) (o.1 ∙ ap (λ (n : ℕ). counted_from n o.0) turned)
         ∙ counted_on 1 (count_of counts h year) o.0
         ∙ ap (counted_from 1) (sym o.2)

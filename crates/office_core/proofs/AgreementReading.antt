@@ -19,9 +19,9 @@ use Rattle.event_life.specs.declared.life.Breach.{Breach}
 use Rattle.event_life.specs.declared.life.Breach.TheVariants.{Twice}
 use Rattle.event_life.specs.Firsts.{is_lawful}
 use Rattle.event_life.specs.Lives.{AreLawful, judged_product}
-use Rattle.event_life.specs.Openings.{opened_by}
+use Rattle.event_life.specs.Openings.{events_opened_by}
 use Rattle.event_life.specs.Printed.{HasOneOpen, printed_end, zone_line_of}
-use Rattle.event_life.specs.Products.{Product, around_of, breach_in, by_key, end_of, event_of_issue, going_in, is_new, is_routine, is_second, judged, judged_from, lawful_of, life_at, line_of, lines_of, rows_after, rows_with}
+use Rattle.event_life.specs.Products.{Product, around_of, breach_in, by_key, end_of, event_of_issue, latest_open_event, is_new, is_routine, is_second, judged, judged_from, lawful_of, life_at, line_of, lines_of, rows_after, rows_with}
 use Rattle.event_life.specs.Reordered.{are_lawful}
 use Rattle.event_life.specs.Table.{breach_of_line}
 use Rattle.event_life.proofs.OpenedLemmas.{opened_lawful}
@@ -71,7 +71,7 @@ module _ (rows : List Row) (t : ℕ) (office : List ℕ) (class : Class) where
 
   routine_reads : (line : Line) → AllByRecursion HasNumber rows → (action : Action) → line.action ≡ action → is_routine action ≡ true → IsZeroOf t line.event → Reads line
   routine_reads line numbers Rou e h zero =
-      let none : going_in rows line.event.hazard line.event.etn t ≡ None = rw zero.0 (none_going rows line.event.hazard t numbers) in
+      let none : latest_open_event rows line.event.hazard line.event.etn t ≡ None = rw zero.0 (none_going rows line.event.hazard t numbers) in
       let event = routine_event line zero in
       let end = end_again line.end in
       rw (e, none) (λ i. record { action = Rou; event = event i; zone = line.zone; begin = line.begin; end = end i; flood = line.flood })
@@ -100,7 +100,7 @@ module _ (rows : List Row) (t : ℕ) (office : List ℕ) (class : Class) where
 pub record IsReadAs (rows : List Row) (lines : List Line) (t : ℕ) (p : Product) : Type 0 where
   pub lawful : list_all (λ (l : Line × Option Breach). is_none l.1) (judged_product rows p) ≡ true
   pub rows_are : rows_with rows p ≡ rows_after rows t lines
-  pub opened : opened_by (lawful_of (judged_product rows p)) ≡ opened_by lines
+  pub opened : events_opened_by (lawful_of (judged_product rows p)) ≡ events_opened_by lines
 
 pub product_reads : (rows : List Row) (t : ℕ) (office : List ℕ) (class : Class) (lines : List Line) (segments : List Segment) →
     IsStrictlySortedBy by_key rows → HasOneOpen rows t → AllByRecursion HasNumber rows → are_lawful rows t lines ≡ true → AllPairs IsApart lines →
@@ -113,7 +113,7 @@ product_reads rows t office class lines segments up one numbers lawful apart yea
     record {
       lawful = ap (are_lawful rows t) back ∙ none;
       rows_are = ap (rows_after rows t) back ∙ text_rows rows t lines segments up are apart;
-      opened = ap (λ (ls : List Line). opened_by (lawful_of (judged rows t ls))) back ∙ opened_lawful rows t said none ∙ text_opened lines segments are;
+      opened = ap (λ (ls : List Line). events_opened_by (lawful_of (judged rows t ls))) back ∙ opened_lawful rows t said none ∙ text_opened lines segments are;
     }
 
 -- a product without a breach has lawful lines of each event in each zone

@@ -15,7 +15,7 @@ use Rattle.office_types.specs.declared.request.Intent.{Intent}
 use Rattle.office_types.specs.declared.request.Intent.TheVariants.{Put, Finish, Restate, Routine}
 use Rattle.hazard_types.proofs.Equality.{event_itself}
 use Rattle.event_life.specs.Periods.{ends_after, keeps_open}
-use Rattle.event_life.specs.Products.{going_in, is_routine, row_at}
+use Rattle.event_life.specs.Products.{latest_open_event, is_routine, row_at}
 use Rattle.event_numbers.specs.declared.Count.{Count}
 use Rattle.action_planner.specs.Conditions.{AreNumbered}
 use Rattle.action_planner.specs.Placed.{Placed, event_of_intent, placed_from, zones_of}
@@ -77,7 +77,7 @@ rows_have_numbers rows counts numbered = every HasNumber rows (λ row h.
     false_from_ne_true _ (λ zero. both_ways _ (numbered_from rows counts numbered row.event (eqb-true row.event.etn 0 zero)) (any_has (λ (r : Row). same_event r.event row.event) rows row h (event_itself row.event))))
 
 -- so no open event has it
-pub none_going : (rows : List Row) (h : Hazard) (t : ℕ) → AllByRecursion HasNumber rows → going_in rows h 0 t ≡ None
+pub none_going : (rows : List Row) (h : Hazard) (t : ℕ) → AllByRecursion HasNumber rows → latest_open_event rows h 0 t ≡ None
 none_going [] h t all = refl
 none_going (row ∷ rows) h t all =
     let other = and_left (same_hazard row.event.hazard h && (row.event.etn == 0)) (keeps_open t row) (and_right (same_hazard row.event.hazard h) (row.event.etn == 0) all.0) in

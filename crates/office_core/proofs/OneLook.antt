@@ -44,9 +44,9 @@ module _ {X : Type 0} (text_of : X → List ℕ) (missing : Refusal) (ShowsFound
   found_not_both none None text x shown lacks = none text shown
   found_not_both none (Some it) text x shown lacks = none_some it (Some it) lacks.0 refl
 
-  found_text : ((text : List ℕ) → ShowsFound None text → ⊥) → ((it : X) (text : List ℕ) → ShowsFound (Some it) text → text ≡ text_of it) → (found : Option X) (text other : List ℕ) → ShowsFound found text → ShowsFound found other → text ≡ other
-  found_text none is None text other one two = absurd (none text one)
-  found_text none is (Some it) text other one two = is it text one ∙ sym (is it other two)
+  draft_as_json : ((text : List ℕ) → ShowsFound None text → ⊥) → ((it : X) (text : List ℕ) → ShowsFound (Some it) text → text ≡ text_of it) → (found : Option X) (text other : List ℕ) → ShowsFound found text → ShowsFound found other → text ≡ other
+  draft_as_json none is None text other one two = absurd (none text one)
+  draft_as_json none is (Some it) text other one two = is it text one ∙ sym (is it other two)
 
 product_either : (found : Option Sent) → HasAnswer (ShowsProduct found) (LacksProduct found)
 product_either found = found_either (λ (sent : Sent). sent.text) refusal.NoProduct ShowsProduct (λ sent. refl) found
@@ -55,7 +55,7 @@ product_not_both : (found : Option Sent) (text : List ℕ) (x : Refusal) → Sho
 product_not_both found text x shown lacks = found_not_both (λ (sent : Sent). sent.text) refusal.NoProduct ShowsProduct (λ text none. none) found text x shown lacks
 
 product_text : (found : Option Sent) (text other : List ℕ) → ShowsProduct found text → ShowsProduct found other → text ≡ other
-product_text found text other one two = found_text (λ (sent : Sent). sent.text) refusal.NoProduct ShowsProduct (λ text none. none) (λ sent text is. is) found text other one two
+product_text found text other one two = draft_as_json (λ (sent : Sent). sent.text) refusal.NoProduct ShowsProduct (λ text none. none) (λ sent text is. is) found text other one two
 
 draft_either : (found : Option SomeDraft) → HasAnswer (ShowsDraft found) (LacksDraft found)
 draft_either found = found_either draft_text refusal.NoDraft ShowsDraft (λ d. refl) found
@@ -64,7 +64,7 @@ draft_not_both : (found : Option SomeDraft) (text : List ℕ) (x : Refusal) → 
 draft_not_both found text x shown lacks = found_not_both draft_text refusal.NoDraft ShowsDraft (λ text none. none) found text x shown lacks
 
 draft_text_one : (found : Option SomeDraft) (text other : List ℕ) → ShowsDraft found text → ShowsDraft found other → text ≡ other
-draft_text_one found text other one two = found_text draft_text refusal.NoDraft ShowsDraft (λ text none. none) (λ d text is. is) found text other one two
+draft_text_one found text other one two = draft_as_json draft_text refusal.NoDraft ShowsDraft (λ text none. none) (λ d text is. is) found text other one two
 
 -- ---- a preview
 

@@ -25,7 +25,7 @@ use Rattle.office_types.specs.declared.request.Texts.{Texts}
 use Rattle.hazard_types.proofs.Equality.{category_itself}
 use Rattle.desk_settings.specs.Looking.{name_for_zone}
 use Rattle.event_numbers.specs.declared.Count.{Count}
-use Rattle.action_planner.specs.Fitting.{are_of_kind, are_zones, fits, fits_target, of_other_kind, opens_with}
+use Rattle.action_planner.specs.Fitting.{are_of_kind, is_valid_zone_list, fits, fits_target, of_other_kind, opens_with}
 use Rattle.action_planner.specs.Placed.{zones_of}
 use Rattle.action_planner.specs.Texts.{texts_of}
 use Rattle.action_planner.specs.Told.{flood_of, passes}
@@ -152,7 +152,7 @@ module _ (s : State) (counts : List Count) (sound : IsSound s counts) where
       let known = find_none (is_unknown_zone s.settings) (zones_of i) (map_none (λ (z : Place). refusal.UnknownZone z) (find (is_unknown_zone s.settings) (zones_of i)) zones) in
       let same = none_is (find (of_other_kind (facts_of (hazard_of i))) (zones_of i)) (map_none (λ (z : Place). refusal.WrongZoneKind z) (find (of_other_kind (facts_of (hazard_of i))) (zones_of i)) kind) in
       record {
-        fits = (hold_Decides c i).0 (and_from (fits c i) (are_zones (zones_of i)) (fits_by c i own same) (passed (are_zones (zones_of i)) refusal.BadZoneList list));
+        fits = (hold_Decides c i).0 (and_from (fits c i) (is_valid_zone_list (zones_of i)) (fits_by c i own same) (passed (is_valid_zone_list (zones_of i)) refusal.BadZoneList list));
         named = All-from_recursion (IsNamed s.settings s.class) (zones_of i)
             (all_weaker (λ (z : Place). is_unknown_zone s.settings z ≡ false) (IsNamed s.settings s.class) (λ z h. named_by s.settings.any_zone (is_training s.class) (name_for_zone s.settings.zones z) sound.training h) (zones_of i) known);
         located = located;

@@ -16,7 +16,7 @@ use Rattle.office_types.specs.declared.request.Target.{Target}
 use Rattle.office_types.specs.declared.request.Target.TheVariants.{Fresh, Join}
 use Rattle.desk_settings.specs.Looking.{name_for_zone}
 use Rattle.desk_settings.specs.declared.settings.Settings.{Settings}
-use Rattle.action_planner.specs.Fitting.{of_other_kind, opens_with, are_zones}
+use Rattle.action_planner.specs.Fitting.{of_other_kind, opens_with, is_valid_zone_list}
 use Rattle.action_planner.specs.Lines.{follows}
 use Rattle.action_planner.specs.Offences.{first_given}
 use Rattle.action_planner.specs.Placed.{zones_of}
@@ -140,7 +140,7 @@ wrong_category _ _ = None
 -- BadZoneList: the list is empty, repeats a zone, or has more than 600
 abbrev pub bad_zones : Option Intent → Option Refusal
 bad_zones None = None
-bad_zones (Some i) = if are_zones (zones_of i) then None else Some refusal.BadZoneList
+bad_zones (Some i) = if is_valid_zone_list (zones_of i) then None else Some refusal.BadZoneList
 
 -- NoProduct: no product has this number
 abbrev pub no_product : State → Request → Option Refusal

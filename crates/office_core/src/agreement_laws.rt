@@ -15,14 +15,17 @@ ghost use Rattle.office_core.specs.State.{State, first_state};
 ghost use Rattle.office_core.specs.Step.{state_after};
 ghost use Rattle.office_core.specs.declared.made.Made.{Made};
 
-/// Before any request there are no texts, and they agree with the empty board.
+/// Law: before any request the texts of an office agree with its board (`Agrees`), since there are
+/// no texts and no rows.
 pub fn offices_begin_in_agreement()
     ensures { (settings : Settings) (class : Class) (edition : Edition) →
         Agrees (first_state settings class edition) [] }
 {}
 
-/// After an entry the texts still agree with the board, if its product was planned without a broken
-/// rule and reads as its plan, and the events that it opens have drawn their numbers.
+/// Law: if the texts of a sound office agree with its board (`Agrees`: a reader of the texts finds
+/// the rows and the event numbers of the office), they do so after one more entry, whose minute is
+/// not before that of the last. The entry makes no product, or one that was planned without a
+/// broken rule and whose text reads as its plan; its events have drawn their numbers.
 pub fn products_keep_the_agreement()
     ensures { (s : State) (counts after : List Count) (making : Making) (made : Option Made)
         (e : Entry) →

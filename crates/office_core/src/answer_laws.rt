@@ -12,8 +12,8 @@ ghost use Rattle.office_core.specs.Step.{Accepts, Refuses, Repeats};
 ghost use Rattle.office_core.specs.Views.{IsRoomier, OfficeView};
 ghost use Rattle.office_core.specs.declared.made.Made.{Made};
 
-/// No request is answered in two of the three ways accepted, refused and repeated. An accepted one
-/// makes one thing at one minute, and a refused one has one first broken rule.
+/// Law: no request is answered in two of the three ways accepted, refused and repeated. An accepted
+/// request has one minute and makes one product, or none, and a refused one has one refusal.
 pub fn a_request_has_one_answer()
     ensures accepted { (s : State) (desk : List ℕ) (seq : ℕ) (r : Request) (reading : ℤ) (t u : ℕ)
         (made other : Option Made) →
@@ -33,7 +33,8 @@ pub fn a_request_has_one_answer()
         Repeats s desk seq r kept → Refuses s desk seq r reading x → ⊥ }
 {}
 
-/// A look has one answer in each state of the office: one text or one refusal, never both.
+/// Law: a query, in a state of the office and at a reading of the clock, has exactly one answer:
+/// one text or one refusal.
 pub fn a_look_has_one_answer()
     ensures either { (s : State) (q : Query) (reading : ℤ) →
         ((text : List ℕ) × Shows s q reading text) ⊎ ((x : Refusal) × RefusesLook s q reading x) }
@@ -45,8 +46,9 @@ pub fn a_look_has_one_answer()
         RefusesLook s q reading x → RefusesLook s q reading y → x ≡ y }
 {}
 
-/// A request that is accepted at a reading is accepted at its own minute as the reading too, and
-/// makes the same.
+/// Law: if a request is accepted at some reading of the clock, with minute `t`, it would be
+/// accepted if the clock read `t`, with the same minute, and make the same product. This holds if
+/// the last entry before the request is at minute 52,000,000 or earlier.
 #[tactic(auto, using(crate::proofs::ReadingLemmas::at_own_minute))]
 pub fn accepted_requests_are_accepted_at_their_minute()
     ensures { (s : State) (desk : List ℕ) (seq : ℕ) (r : Request) (reading : ℤ) (t : ℕ)
@@ -55,8 +57,9 @@ pub fn accepted_requests_are_accepted_at_their_minute()
         Accepts s desk seq r (pos t) t made }
 {}
 
-/// What was prepared may be committed by an office that has since prepared other requests, if none
-/// was committed.
+/// Law: what an office may commit it may commit later too, if its state and its counts of event
+/// numbers are as before and it has at least as much spare memory. So other requests may be
+/// prepared in between, but none committed.
 pub fn what_is_prepared_may_wait()
     ensures { (o now : OfficeView) (p : Readied) →
         now.state ≡ o.state → now.counts ≡ o.counts → IsRoomier o.room now.room → MayCommit o p →

@@ -13,14 +13,15 @@ use hazard_types::{Category, List, Minute, Oom};
 use office_types::{Desk, Draft, Intent, Request};
 use std::alloc::Global;
 
-/// The index of the open draft `id`.
+/// Returns the index in `drafts` of the draft whose id is `id`, or `None` if there is none.
 pub(crate) fn place_of(drafts: &[Draft], id: u32) -> Option<usize>
     ensures { result ≡ position (is_draft id) drafts.now }
 {
     drafts.iter().position(|draft| draft.id == id)
 }
 
-/// The draft with other intents, touched at minute t.
+/// Returns a draft with the id, owner and category of `draft`, with `intents`, and with minute `t`
+/// as that of the last accepted request on it.
 fn touched(draft: &Draft, t: Minute, intents: List<Intent>) -> Draft
     ensures { result ≡ record { id = draft.now.id; owner = draft.now.owner; category = draft.now.category; touched = t; intents = intents } }
 {
@@ -33,7 +34,8 @@ fn touched(draft: &Draft, t: Minute, intents: List<Intent>) -> Draft
     }
 }
 
-/// The draft with one more intent, after the others.
+/// Returns the draft with one more intent, after the others, and minute `t` as that of the last
+/// accepted request on it.
 fn with_intent(alloc: Global, draft: &Draft, t: Minute, intent: Intent) -> Result<Draft, Oom>
     ensures { IfOk result (λ new. new ≡ with_intent t intent draft.now) }
 {
@@ -42,7 +44,9 @@ fn with_intent(alloc: Global, draft: &Draft, t: Minute, intent: Intent) -> Resul
     Ok(touched(draft, t, intents))
 }
 
-/// The draft without the intent at a place, counted from 0. The later ones move down by one.
+/// Returns the draft without the intent at `place`, counted from 0, and with minute `t` as that of
+/// the last accepted request on it. The later intents move down by one; if there is none at
+/// `place`, all stay.
 fn without_intent(alloc: Global, draft: &Draft, t: Minute, place: usize) -> Result<Draft, Oom>
     ensures { IfOk result (λ new. new ≡ without_intent t place draft.now) }
 {
@@ -53,7 +57,8 @@ fn without_intent(alloc: Global, draft: &Draft, t: Minute, place: usize) -> Resu
     Ok(touched(draft, t, List::from_vec(intents)))
 }
 
-/// The draft with `desk` as its owner.
+/// Returns the draft with `desk` as its owner, and minute `t` as that of the last accepted request
+/// on it.
 fn taken_by(alloc: Global, draft: &Draft, t: Minute, desk: &Desk) -> Result<Draft, Oom>
     ensures { IfOk result (λ new. new ≡ taken_by t desk.now draft.now) }
 {
@@ -67,8 +72,8 @@ fn taken_by(alloc: Global, draft: &Draft, t: Minute, desk: &Desk) -> Result<Draf
     })
 }
 
-/// What a request changes in an open draft: one more intent, behind the others; one less, at a place
-/// counted from 0; or its owner.
+/// What a request changes in an open draft: one more intent, behind the others; one less, at a
+/// place counted from 0; or its owner.
 #[derive(Drop)]
 enum Edit {
     More(Intent),
@@ -78,7 +83,9 @@ enum Edit {
 
 ghost use Rattle.office_core.specs.Edits.{edited};
 
-/// The draft with an edit, touched at minute t.
+/// Returns the draft after the edit: with one more intent behind the others, without the intent at
+/// a place, counted from 0, or with another owner. Minute `t` becomes that of the last accepted
+/// request on it.
 fn edited(alloc: Global, draft: &Draft, t: Minute, edit: Edit) -> Result<Draft, Oom>
     ensures { IfOk result (λ new. new ≡ edited t edit draft.now) }
 {
@@ -89,7 +96,9 @@ fn edited(alloc: Global, draft: &Draft, t: Minute, edit: Edit) -> Result<Draft, 
     }
 }
 
-/// Makes an edit in draft `id`.
+/// Returns the change that replaces the draft whose id is `id` by its copy after the edit, with
+/// minute `t` as that of the last accepted request on it. It is `Keep` if no draft of `drafts` has
+/// this id.
 fn edit_draft(
     alloc: Global,
     drafts: &[Draft],
@@ -110,7 +119,7 @@ fn edit_draft(
     }
 }
 
-/// Removes draft `id`.
+/// Returns the change that removes draft `id`, or `Keep` if no open draft has this id.
 pub(crate) fn take_away(drafts: &[Draft], id: u32) -> DraftChange
     ensures drafts { changed result drafts.now ≡ without_draft id drafts.now }
     ensures place { HasPlace result drafts.now }
@@ -121,7 +130,8 @@ pub(crate) fn take_away(drafts: &[Draft], id: u32) -> DraftChange
     }
 }
 
-/// Opens a draft without intents.
+/// Returns the change that opens a draft without intents, with this id, owner and category. `t` is
+/// the minute at which it is opened, and so of the last accepted request on it.
 fn opened_draft(alloc: Global, id: u32, owner: &Desk, category: Category, t: Minute) -> DraftChange
     ensures { result ≡ Open
         (record { id = id; owner = owner.now; category = category; touched = t; intents = [] }) }
@@ -136,7 +146,11 @@ fn opened_draft(alloc: Global, id: u32, owner: &Desk, category: Category, t: Min
 }
 
 impl Office {
-    /// The change of the drafts by a request that breaks none of its rules.
+    /// Returns the change of the open drafts by a request of `desk` that breaks no rule and is
+    /// accepted at minute `t`. It is `Open` for a begin, with an id one above the number of drafts
+    /// opened so far, `Replace` for an intent that is added or removed and for a take, and `Remove`
+    /// for a discard and a send. It is `Keep` for an issue, for a correction, and if no open draft
+    /// has the id.
     #[tactic(auto, unfolding(crate::specs::Step::drafts_after))]
     pub(crate) fn change_of(
         &self,

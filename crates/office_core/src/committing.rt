@@ -20,7 +20,9 @@ use hazard_board::Board;
 use hazard_types::Minute;
 use office_types::{Desk, Draft, Entry, Sent};
 
-/// Changes the open drafts.
+/// Makes the change in `drafts`, the open drafts, which must have capacity for 64. The change must
+/// fit them: its place is an index of `drafts`, and for one more draft there are fewer than 64. It
+/// takes no memory.
 fn change_drafts(drafts: &mut Vec<Draft>, change: DraftChange)
     requires place { HasPlace change drafts.old.items }
     requires room { 64 ≤ vec_capacity drafts.old }
@@ -37,14 +39,15 @@ fn change_drafts(drafts: &mut Vec<Draft>, change: DraftChange)
     }
 }
 
-/// The index of a desk.
+/// Returns the index of the desk's record in `heard`, or `None` if no record is of this desk.
 fn place_of(heard: &[DeskRecord], desk: &Desk) -> Option<usize>
     ensures { result ≡ position (λ h. bytes_eq h.desk desk.now) heard.now }
 {
     heard.iter().position(|h| h.desk.bytes() == desk.bytes())
 }
 
-/// Records a request as the desk's last.
+/// Records `said` as the desk's last accepted request. Nothing changes if no record is of this
+/// desk.
 fn record_request(heard: &mut Vec<DeskRecord>, desk: &Desk, said: LastRequest)
     ensures { heard.new.items ≡ heard_after heard.old.items desk.now said }
 {
@@ -53,7 +56,8 @@ fn record_request(heard: &mut Vec<DeskRecord>, desk: &Desk, said: LastRequest)
     }
 }
 
-/// The number of drafts opened so far, after the change.
+/// Returns how many drafts have been opened so far when the change is made. `begun` is how many
+/// were before it; ids are given from 1 on, so for an opened draft it is the id.
 fn begun_with(begun: u32, change: &DraftChange) -> u32
     ensures { result ≡ begun_with begun change.now }
 {
@@ -63,8 +67,10 @@ fn begun_with(begun: u32, change: &DraftChange) -> u32
     }
 }
 
-/// Adds a product to the board, the numbers and the products.
-fn take_made(
+/// Adds the product that a request made at minute `t`, if it made one, to `products`, its lines to
+/// the board, and the events that it opens to the counts of `numbers`. The memory for this must
+/// have been taken before (`reserve`), and the events must have the next numbers, in order.
+fn add_made_product(
     board: &mut Board,
     numbers: &mut Numbers,
     products: &mut Vec<Sent>,
@@ -89,8 +95,9 @@ fn take_made(
 }
 
 impl Office {
-    /// Commits what this office prepared, if nothing was committed since. The reply is stored as
-    /// the one to the desk's last request. Takes no memory and can't fail.
+    /// Makes an accepted request part of the state. This office prepared it, and has committed
+    /// nothing since. The reply is stored as the one to the desk's last request; no memory is
+    /// taken, and nothing can fail.
     pub fn commit(&mut self, p: Prepared)
         requires { MayCommit self.old p }
         ensures state { self.new.state ≡ state_after self.old.state p.entry p.made }
@@ -114,7 +121,7 @@ impl Office {
         } = entry;
         self.begun = begun_with(self.begun, &change);
         change_drafts(&mut self.drafts, change);
-        take_made(
+        add_made_product(
             &mut self.board,
             &mut self.numbers,
             &mut self.products,

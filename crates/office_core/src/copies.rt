@@ -5,24 +5,28 @@ use hazard_types::{List, Oom};
 use office_types::{EventPart, Intent, PutPart, Request, RoutinePart};
 use std::alloc::Global;
 
+/// Returns a copy of an intent that opens or joins an event.
 pub(crate) fn clone_put(part: &PutPart) -> Result<PutPart, Oom>
     ensures { IfOk result (λ copy. copy ≡ part.now) }
 {
     Ok(part.clone()?)
 }
 
+/// Returns a copy of an intent that ends or restates an event.
 pub(crate) fn clone_event(part: &EventPart) -> Result<EventPart, Oom>
     ensures { IfOk result (λ copy. copy ≡ part.now) }
 {
     Ok(part.clone()?)
 }
 
+/// Returns a copy of an intent that makes a routine line.
 pub(crate) fn clone_routine(part: &RoutinePart) -> Result<RoutinePart, Oom>
     ensures { IfOk result (λ copy. copy ≡ part.now) }
 {
     Ok(part.clone()?)
 }
 
+/// Returns a copy of an intent.
 pub(crate) fn clone_intent(intent: &Intent) -> Result<Intent, Oom>
     ensures { IfOk result (λ copy. copy ≡ intent.now) }
 {
@@ -34,6 +38,7 @@ pub(crate) fn clone_intent(intent: &Intent) -> Result<Intent, Oom>
     }
 }
 
+/// Returns a copy of the intents, in order.
 pub(crate) fn copied_intents(alloc: Global, intents: &[Intent]) -> Result<List<Intent>, Oom>
     ensures { IfOk result (λ copy. copy ≡ intents.now) }
 {
@@ -44,6 +49,7 @@ pub(crate) fn copied_intents(alloc: Global, intents: &[Intent]) -> Result<List<I
     Ok(copy)
 }
 
+/// Returns a copy of a request.
 pub(crate) fn clone_request(r: &Request) -> Result<Request, Oom>
     ensures { IfOk result (λ copy. copy ≡ r.now) }
 {

@@ -13,7 +13,8 @@ use office_types::{Desk, Draft, Refusal, Request};
 /// The minutes after its last touch for which a draft is its owner's alone.
 const ACTIVE: u32 = 10;
 
-/// The id of the draft that a request is on.
+/// Returns the id of the open draft that a request names, or `None` for a request that names none:
+/// an issue, the opening of a draft, and a correction.
 pub(crate) fn draft_of(r: &Request) -> Option<u32>
     ensures { result ≡ draft_of r.now }
 {
@@ -30,7 +31,7 @@ pub(crate) fn draft_of(r: &Request) -> Option<u32>
     }
 }
 
-/// Whether the request adds an intent.
+/// Whether the request adds an intent to a draft, or is an issue, which has an intent of its own.
 fn puts(r: &Request) -> bool
     ensures { result ≡ is_some (intent_of r.now) }
 {
@@ -44,7 +45,7 @@ fn puts(r: &Request) -> bool
     }
 }
 
-/// Whether the request takes over a draft.
+/// Whether the request is a take, which makes the desk the owner of a draft.
 fn takes(r: &Request) -> bool
     ensures { result ≡ takes r.now }
 {
@@ -54,7 +55,7 @@ fn takes(r: &Request) -> bool
     }
 }
 
-/// The draft `id`.
+/// Returns the draft of `drafts` whose id is `id`, or `None` if there is none.
 fn draft_at(drafts: &[Draft], id: u32) -> Option<&Draft>
     ensures { option_map (λ d. d.now) result ≡ find (is_draft id) drafts.now }
 {
@@ -66,14 +67,16 @@ fn draft_at(drafts: &[Draft], id: u32) -> Option<&Draft>
     None
 }
 
-/// Whether the draft is another desk's.
+/// Whether a desk other than `desk` owns the draft.
 fn is_of_other_desk(desk: &Desk, draft: &Draft) -> bool
     ensures { result ≡ is_of_other_desk desk.now draft.now }
 {
     draft.owner.bytes() != desk.bytes()
 }
 
-/// `NotOwner`: another desk owns the draft. A take is not asked this.
+/// Returns `NotOwner` if a desk other than `desk`, which sends the request, owns the draft `found`
+/// and the request is no take, or `None` otherwise. `found` is the open draft that the request
+/// names; without one the result is `None`.
 fn not_owner(desk: &Desk, r: &Request, found: Option<&Draft>) -> Option<Refusal>
     ensures { result ≡ not_owner desk.now r.now (option_map (λ d. d.now) found.entry) }
 {
@@ -89,7 +92,8 @@ fn not_owner(desk: &Desk, r: &Request, found: Option<&Draft>) -> Option<Refusal>
     }
 }
 
-/// Whether the request takes a draft that another desk touched less than ten minutes ago.
+/// Whether the request of `desk` takes another desk's draft less than ten minutes after the last
+/// accepted request on that draft. `t` is the minute of the request.
 fn comes_early(desk: &Desk, t: Minute, r: &Request, draft: &Draft) -> bool
     ensures { result
         ≡ (is_of_other_desk desk.now draft.now && takes r.now && nat_lt t (draft.now.touched + 10)) }
@@ -97,7 +101,8 @@ fn comes_early(desk: &Desk, t: Minute, r: &Request, draft: &Draft) -> bool
     is_of_other_desk(desk, draft) && takes(r) && t.get() < draft.touched.get() + ACTIVE
 }
 
-/// The minute from which on any desk may take a draft.
+/// Returns the minute from which on any desk may take a draft: ten minutes after the last accepted
+/// request on it.
 fn free_at(draft: &Draft) -> Minute
     requires { draft.now.touched ≤ 52000000 }
     ensures { result ≡ draft.now.touched + 10 }
@@ -108,7 +113,9 @@ fn free_at(draft: &Draft) -> Minute
     }
 }
 
-/// `StillActive`: a take of another desk's draft within ten minutes of its last touch.
+/// Returns `StillActive` if the request of `desk` takes another desk's draft less than ten minutes
+/// after the last accepted request on that draft, or `None` otherwise. `t` is the minute of the
+/// request, and `found` the open draft that it names; without one the result is `None`.
 fn still_active(desk: &Desk, t: Minute, r: &Request, found: Option<&Draft>) -> Option<Refusal>
     requires { IfSome found (λ d. d.now.touched ≤ 52000000) }
     ensures { result ≡ still_active desk.now t r.now (option_map (λ d. d.now) found.entry) }
@@ -127,7 +134,9 @@ fn still_active(desk: &Desk, t: Minute, r: &Request, found: Option<&Draft>) -> O
     }
 }
 
-/// `IntentsFull`: the draft to which an intent is added has 64.
+/// Returns `IntentsFull` if the request adds an intent to the draft `found` and the draft has 64
+/// intents already, or `None` otherwise. `found` is the open draft that the request names; without
+/// one the result is `None`.
 fn intents_full(r: &Request, found: Option<&Draft>) -> Option<Refusal>
     ensures { result ≡ intents_full (intent_of r.now) (option_map (λ d. d.now) found.entry) }
 {
@@ -143,7 +152,8 @@ fn intents_full(r: &Request, found: Option<&Draft>) -> Option<Refusal>
     }
 }
 
-/// `NoIntent`, if the draft has no intent at the place, counted from 0.
+/// Returns `NoIntent` if the draft has no intent at the place, counted from 0, or `None` if it has
+/// one.
 fn none_at(draft: &Draft, place: u32) -> Option<Refusal>
     ensures { result ≡ (if nat_le (length draft.now.intents) place
         then Some (Refused.NoIntent place)
@@ -156,7 +166,9 @@ fn none_at(draft: &Draft, place: u32) -> Option<Refusal>
     }
 }
 
-/// `NoIntent`: a drop of a place at which there is no intent.
+/// Returns `NoIntent` if the request removes the intent at a place, counted from 0, where the draft
+/// `found` has none, or `None` otherwise. `found` is the open draft that the request names; without
+/// one the result is `None`.
 fn no_intent(r: &Request, found: Option<&Draft>) -> Option<Refusal>
     ensures { result ≡ no_intent r.now (option_map (λ d. d.now) found.entry) }
 {
@@ -170,7 +182,7 @@ fn no_intent(r: &Request, found: Option<&Draft>) -> Option<Refusal>
 }
 
 impl Office {
-    /// The draft `id`.
+    /// Returns the open draft whose id is `id`, or `None` if there is none.
     pub(crate) fn draft_at(&self, id: u32) -> Option<&Draft>
         ensures value { option_map (λ d. d.now) result ≡ draft_at self.now.state id }
         ensures touched { IfSome result (λ d. d.now.touched ≤ 52000000) }
@@ -178,7 +190,8 @@ impl Office {
         draft_at(&self.drafts, id)
     }
 
-    /// The draft that a request is on.
+    /// Returns the open draft that a request names, or `None` if it names none or there is no such
+    /// draft.
     pub(crate) fn found_draft(&self, r: &Request) -> Option<&Draft>
         ensures value { option_map (λ d. d.now) result
             ≡ found_draft self.now.state (draft_of r.now) }
@@ -190,7 +203,9 @@ impl Office {
         }
     }
 
-    /// `NoDraft`: there is no draft `id`.
+    /// Returns `NoDraft` if no open draft has the id `id`, or `None` otherwise. `id` is that of the
+    /// draft that a request names; for a request that names none it is `None`, and so is the
+    /// result.
     fn no_draft(&self, id: Option<u32>) -> Option<Refusal>
         ensures { result ≡ no_draft self.now.state id }
     {
@@ -206,7 +221,8 @@ impl Office {
         }
     }
 
-    /// `DraftsFull`: a draft is opened while there are 64.
+    /// Returns `DraftsFull` if the request opens a draft and 64 are open already, or `None`
+    /// otherwise.
     fn drafts_full(&self, r: &Request) -> Option<Refusal>
         ensures { result ≡ drafts_full self.now.state r.now }
     {
@@ -222,7 +238,9 @@ impl Office {
         }
     }
 
-    /// The first broken rule on the draft that a request is on.
+    /// Returns the refusal for the first rule that a request of `desk` at minute `t` breaks on the
+    /// drafts, or `None` if it breaks none of them. The rules come in the order NoDraft, NotOwner,
+    /// StillActive, DraftsFull, IntentsFull, NoIntent.
     #[tactic(auto, unfolding(crate::specs::Rules::broken_draft))]
     pub(crate) fn broken_draft(&self, desk: &Desk, r: &Request, t: Minute) -> Option<Refusal>
         ensures { result ≡ broken_draft self.now.state desk.now r.now t

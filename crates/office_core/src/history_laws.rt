@@ -10,16 +10,17 @@ ghost use Rattle.office_core.specs.State.{State, last_number};
 ghost use Rattle.office_core.specs.Step.{Accepts, entry_of, state_after};
 ghost use Rattle.office_core.specs.declared.made.Made.{Made};
 
-/// In a legal history each request is there once: the numbers of each desk are 1, 2, .., in this
-/// order.
+/// Law: in a legal history of an office, the numbers of the requests of each desk are 1, 2, 3 and
+/// so on, in this order. So each request is there once.
 pub fn requests_stand_once()
     ensures { (fits : List Entered → Entered → Bool) (settings : Settings) (class : Class)
         (history : List Entered) (s : State) →
         IsLegal fits settings class history s → StandOnce (entries_of history) }
 {}
 
-/// The number of an accepted request is one above its desk's last, and then is the last; those of
-/// other desks stay as they are.
+/// Law: the number of an accepted request is one above that of its desk's last accepted request, 0
+/// before the first. After it, that number is its desk's last, and the last numbers of other desks
+/// are as before.
 pub fn accepted_requests_are_numbered_on()
     ensures number { (s : State) (counts : List Count) (desk : List ℕ) (seq : ℕ) (r : Request)
         (reading : ℤ) (t : ℕ) (made : Option Made) →

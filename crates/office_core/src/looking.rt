@@ -12,13 +12,13 @@ ghost use Rattle.office_core.specs.State.{draft_at};
 use crate::number_rules::{is_out, minute_at};
 use crate::office::Office;
 use crate::soundness_laws::{entries_come_in_order, open_drafts_are_sound};
-use board_text::put_board;
+use board_text::write_board;
 use hazard_types::{List, Minute, Or, Text};
 use office_types::{Draft, Query, Refusal, Sent};
 use request_json::draft_text;
 use std::alloc::Global;
 
-/// The text of a product, or `NoProduct`.
+/// Returns a copy of the text of the product `found`, or errs with `NoProduct` if there is none.
 fn product_text(alloc: Global, found: Option<&Sent>) -> Result<Text, Or<Refusal>>
     ensures shows { IfOk result
         (λ text. ShowsProduct (option_map (λ sent. sent.now) found.entry) text) }
@@ -31,8 +31,8 @@ fn product_text(alloc: Global, found: Option<&Sent>) -> Result<Text, Or<Refusal>
     }
 }
 
-/// The text of a draft as JSON, or `NoDraft`.
-fn found_text(alloc: Global, found: Option<&Draft>) -> Result<Text, Or<Refusal>>
+/// Returns the draft `found` as JSON, or errs with `NoDraft` if there is none.
+fn draft_as_json(alloc: Global, found: Option<&Draft>) -> Result<Text, Or<Refusal>>
     ensures shows { IfOk result (λ text. ShowsDraft (option_map (λ d. d.now) found.entry) text) }
     ensures refused { (x : Refused) →
         result ≡ Err (No x) → LacksDraft (option_map (λ d. d.now) found.entry) x }
@@ -44,7 +44,9 @@ fn found_text(alloc: Global, found: Option<&Draft>) -> Result<Text, Or<Refusal>>
 }
 
 impl Office {
-    /// The minute at which a product would be sent.
+    /// Returns the minute at which a product would be sent if the clock read `reading`: the later
+    /// of `reading` and the minute of the last entry. `reading` is in minutes since
+    /// 2000-01-01T00:00Z UTC, from 0 to 52,000,000.
     fn minute_to_come(&self, reading: i64) -> Minute
         requires { is_out reading ≡ false }
         ensures value { result ≡ minute_of self.now.state reading }
@@ -56,7 +58,8 @@ impl Office {
         self.minute_of(reading)
     }
 
-    /// An open draft, of which a product may be made.
+    /// Returns the open draft whose id is `id`, or `None` if there is none. A product can be
+    /// planned of each open draft.
     fn sound_draft_at(&self, id: u32) -> Option<&Draft>
         ensures value { option_map (λ d. d.now) result ≡ draft_at self.now.state id }
         ensures sound { IfSome result
@@ -67,7 +70,9 @@ impl Office {
         self.draft_at(id)
     }
 
-    /// The rows that are live at the reading, one a line.
+    /// Returns the text of the board at `reading`: the rows that are live then (no line has ended
+    /// them, and their end is later), one a line, by zone, then event. It errs with `ClockOut` if
+    /// `reading`, in minutes since 2000-01-01T00:00Z UTC, is not from 0 to 52,000,000.
     fn board_text(&self, alloc: Global, reading: i64) -> Result<Text, Or<Refusal>>
         ensures shows { IfOk result (λ text. Shows self.now.state Looked.Board reading text) }
         ensures refused { (x : Refused) →
@@ -78,11 +83,14 @@ impl Office {
         }
         let shown = self.board.shown(alloc, minute_at(reading))?;
         let mut text = List::new(alloc);
-        put_board(alloc, &mut text, shown.as_slice())?;
+        write_board(alloc, &mut text, shown.as_slice())?;
         Ok(text)
     }
 
-    /// The text that a send of draft `id` would give.
+    /// Returns the text of the product that a send of draft `id` would make at the later of
+    /// `reading` and the minute of the last entry. It errs with `ClockOut` if `reading`, in minutes
+    /// since 2000-01-01T00:00Z UTC, is not from 0 to 52,000,000, with `NoDraft` if no draft with
+    /// this id is open, or with the refusal for the first rule that the product would break.
     fn preview(&self, alloc: Global, id: u32, reading: i64) -> Result<Text, Or<Refusal>>
         ensures shows { IfOk result
             (λ text. Shows self.now.state (Looked.Preview id) reading text) }
@@ -102,9 +110,10 @@ impl Office {
         }
     }
 
-    /// Returns the text that a query asks to see: the board at `reading`, in minutes since
-    /// 2000-01-01T00:00Z UTC; a product as it was sent; a draft as JSON; or what a send of a draft
-    /// would give, at the later of `reading` and the last entry's minute.
+    /// Returns the text that a query asks for: the rows live at `reading`, one a line; the text of
+    /// a product as it was sent, of a number or the one after a number; a draft as JSON; or the
+    /// text that a send of a draft would give at the later of `reading` and the minute of the last
+    /// entry. `reading` is in minutes since 2000-01-01T00:00Z UTC.
     ///
     /// # Errors
     ///
@@ -121,7 +130,7 @@ impl Office {
             Query::Board => self.board_text(alloc, reading),
             Query::Product(number) => product_text(alloc, self.product_at(*number)),
             Query::After(number) => product_text(alloc, self.product_after(*number)),
-            Query::Draft(id) => found_text(alloc, self.draft_at(*id)),
+            Query::Draft(id) => draft_as_json(alloc, self.draft_at(*id)),
             Query::Preview(id) => self.preview(alloc, *id, reading),
         }
     }

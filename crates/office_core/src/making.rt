@@ -34,7 +34,8 @@ use std::alloc::Global;
 /// The most products of an office.
 const MOST_PRODUCTS: usize = 8192;
 
-/// The category whose products open events of a put's hazard.
+/// Returns the category of the products that open events of the target's hazard. It is WSW for a
+/// hazard that the desk does not issue.
 fn opening_of(target: &Target) -> Category
     ensures { result ≡ opening_of (facts_of (hazard_of_target target.now)) }
 {
@@ -48,7 +49,9 @@ fn opening_of(target: &Target) -> Category
     }
 }
 
-/// The draft of an issue: its put alone, under the category that opens its hazard.
+/// Returns the draft from which the product of an issue by `desk` at minute `t` is made. It has
+/// `part` as its one intent, and the category whose products open events of the part's hazard, or
+/// WSW for a hazard that the desk does not issue. Its id is 0, and it is not among the open drafts.
 fn issued(alloc: Global, desk: &Desk, part: &PutPart, t: Minute) -> Result<Draft, Oom>
     ensures { IfOk result (λ draft. drafted_by (Some draft) ≡ issued part.now) }
 {
@@ -63,7 +66,8 @@ fn issued(alloc: Global, desk: &Desk, part: &PutPart, t: Minute) -> Result<Draft
     })
 }
 
-/// The product with this number, counted from 1.
+/// Returns the product with this number, or `None` if there is none. `products` are all that were
+/// sent, in order, and have the numbers 1, 2 and so on.
 fn product_in(products: &[Sent], number: u32) -> Option<&Sent>
     ensures { option_map (λ sent. sent.now) result ≡ product_in products.now number }
 {
@@ -74,7 +78,10 @@ fn product_in(products: &[Sent], number: u32) -> Option<&Sent>
 }
 
 impl Office {
-    /// The product of a plan, numbered after the others.
+    /// Returns the product of a plan that is sent at minute `t`, with the next number, and the
+    /// events that it opens. `original` is the number of the product that it corrects, `None` if it
+    /// is no correction. It errs with `TooLong` if the text has more than 65,536 bytes, and with
+    /// `ProductsFull` if the office has sent 8,192 products.
     #[tactic(auto, unfolding(crate::specs::Making::broken_product))]
     fn write(
         &self,
@@ -111,7 +118,9 @@ impl Office {
         })
     }
 
-    /// The product of a draft that is sent at minute t, or the first rule that it breaks.
+    /// Returns the product of a draft that is sent at minute `t`, with the events that it opens, or
+    /// errs with the refusal for the first rule that its lines or its text break. The office is not
+    /// changed.
     pub(crate) fn make_drafted(
         &self,
         alloc: Global,
@@ -134,7 +143,9 @@ impl Office {
         self.write(alloc, plan, None, t)
     }
 
-    /// The correction of a product at minute t, or the first rule that it breaks.
+    /// Returns the correction of the product `sent`, sent at minute `t`, or errs with the refusal
+    /// for the first rule that it breaks. `given` are events with the texts that replace those of
+    /// the product. The office is not changed.
     fn make_corrected(
         &self,
         alloc: Global,
@@ -160,9 +171,10 @@ impl Office {
         self.write(alloc, plan, Some(original), t)
     }
 
-    /// What a request makes at minute t, or the first rule that it breaks.
-    ///
-    /// docs/REQUESTS.md, "What a product says".
+    /// Returns the product that an issue, a send or a correction of `desk` makes at minute `t`.
+    /// `None` for any other request, for a send of a draft that is not open, and for a correction
+    /// of a product that there is not. It errs with the refusal for the first rule that the
+    /// product's lines or its text break.
     #[tactic(auto, using(crate::proofs::MakingLemmas::nothing_made))]
     pub(crate) fn make(
         &self,

@@ -12,7 +12,8 @@ use office_types::{Desk, Refusal};
 /// The last minute that a reading may be.
 const LAST_READING: i64 = 52_000_000;
 
-/// The last accepted request of a desk.
+/// Returns the last accepted request of a desk, or `None` if it has none or no record is of this
+/// desk.
 fn said_in<'a>(heard: &'a [DeskRecord], desk: &Desk) -> Option<&'a LastRequest>
     ensures { option_map (λ said. said.now) result ≡ said_in heard.now desk.now }
 {
@@ -24,7 +25,8 @@ fn said_in<'a>(heard: &'a [DeskRecord], desk: &Desk) -> Option<&'a LastRequest>
     None
 }
 
-/// `Reused`: the number is the desk's last, and the request is another one.
+/// Returns `Reused` if `seq` is `last`, the number of the desk's last accepted request, or `None`
+/// otherwise. A repetition of that request has been ruled out before.
 fn reused(last: u32, seq: u32) -> Option<Refusal>
     ensures { result ≡ reused last seq }
 {
@@ -35,7 +37,8 @@ fn reused(last: u32, seq: u32) -> Option<Refusal>
     }
 }
 
-/// `Stale`: the number is below the desk's last.
+/// Returns `Stale` if `seq` is below `last`, the number of the desk's last accepted request, or
+/// `None` otherwise.
 fn stale(last: u32, seq: u32) -> Option<Refusal>
     ensures { result ≡ stale last seq }
 {
@@ -46,7 +49,8 @@ fn stale(last: u32, seq: u32) -> Option<Refusal>
     }
 }
 
-/// `Gap`: the number is more than one above the desk's last.
+/// Returns `Gap` if `seq` is more than one above `last`, the number of the desk's last accepted
+/// request, or `None` otherwise.
 fn gap(last: u32, seq: u32) -> Option<Refusal>
     ensures { result ≡ gap last seq }
 {
@@ -57,14 +61,16 @@ fn gap(last: u32, seq: u32) -> Option<Refusal>
     }
 }
 
-/// Whether a reading is below 0 or above 52,000,000.
+/// Whether a reading of the clock, in minutes since 2000-01-01T00:00Z UTC, is below 0 or above
+/// 52,000,000.
 pub(crate) fn is_out(reading: i64) -> bool
     ensures { result ≡ is_out reading }
 {
     reading < 0 || LAST_READING < reading
 }
 
-/// `ClockOut`: the reading is below 0 or above 52,000,000.
+/// Returns `ClockOut` if a reading of the clock, in minutes since 2000-01-01T00:00Z UTC, is below 0
+/// or above 52,000,000, or `None` otherwise.
 pub(crate) fn clock_out(reading: i64) -> Option<Refusal>
     ensures { result ≡ clock_out reading }
 {
@@ -75,7 +81,8 @@ pub(crate) fn clock_out(reading: i64) -> Option<Refusal>
     }
 }
 
-/// The minute of a reading that is in range.
+/// Returns a reading of the clock as a minute. `reading` is in minutes since 2000-01-01T00:00Z UTC,
+/// and from 0 to 52,000,000.
 pub(crate) fn minute_at(reading: i64) -> Minute
     requires { is_out reading ≡ false }
     ensures { result ≡ nat_abs reading }
@@ -86,6 +93,7 @@ pub(crate) fn minute_at(reading: i64) -> Minute
     }
 }
 
+/// Returns the later of two minutes.
 pub(crate) fn later(first: Minute, second: Minute) -> Minute
     ensures { result ≡ max first second }
 {
@@ -97,14 +105,15 @@ pub(crate) fn later(first: Minute, second: Minute) -> Minute
 }
 
 impl Office {
-    /// The last accepted request of a desk.
+    /// Returns the last accepted request of a desk, or `None` if it has none or the office has no
+    /// such desk.
     pub(crate) fn said_by(&self, desk: &Desk) -> Option<&LastRequest>
         ensures { option_map (λ said. said.now) result ≡ said_by self.now.state desk.now }
     {
         said_in(&self.heard, desk)
     }
 
-    /// The number of a desk's last accepted request, 0 if it has none.
+    /// Returns the number of a desk's last accepted request, or 0 if it has none.
     fn last_number(&self, desk: &Desk) -> u32
         ensures { result ≡ last_number self.now.state desk.now }
     {
@@ -114,7 +123,7 @@ impl Office {
         }
     }
 
-    /// `UnknownDesk`: the desk is not in the settings.
+    /// Returns `UnknownDesk` if the settings have no such desk, or `None` otherwise.
     pub(crate) fn unknown_desk(&self, desk: &Desk) -> Option<Refusal>
         ensures { result ≡ unknown_desk self.now.state desk.now }
     {
@@ -125,7 +134,10 @@ impl Office {
         }
     }
 
-    /// The first broken rule on the desk, its number and the clock.
+    /// Returns the refusal for the first rule that a request breaks on its desk, its number `seq`
+    /// or the clock, or `None` if it breaks none of them. The rules come in the order UnknownDesk,
+    /// Reused, Stale, Gap, ClockOut. `reading` is the clock's, in minutes since 2000-01-01T00:00Z
+    /// UTC.
     #[tactic(auto, unfolding(crate::specs::Rules::broken_number))]
     pub(crate) fn broken_number(&self, desk: &Desk, seq: u32, reading: i64) -> Option<Refusal>
         ensures value { result ≡ broken_number self.now.state desk.now seq reading }

@@ -58,7 +58,7 @@ impl Model for Office {
         × (64 ≤ vec_capacity o.drafts) };
 }
 
-/// The minute of the last entry before there is one, 0.
+/// Returns minute 0, which stands for the minute of the last entry while there is no entry yet.
 fn first_minute() -> Minute
     ensures { result ≡ 0 }
 {
@@ -68,7 +68,8 @@ fn first_minute() -> Minute
     }
 }
 
-/// The desks, each without a request.
+/// Returns a record of each of the desks, in the order of `desks`. None of the records has an
+/// accepted request.
 fn no_requests(alloc: Global, desks: &[Desk]) -> Result<List<DeskRecord>, Oom>
     ensures { IfOk result (λ heard. heard ≡ map no_requests desks.now) }
 {
@@ -83,8 +84,9 @@ fn no_requests(alloc: Global, desks: &[Desk]) -> Result<List<DeskRecord>, Oom>
 }
 
 impl Office {
-    /// Returns an office before any request: without rows, products and drafts. It takes the memory
-    /// for the most drafts.
+    /// Returns an office before any request: without rows, products and drafts. `class` is the
+    /// P-VTEC product class of its products, and `edition` the edition of their texts. It takes the
+    /// memory for the most open drafts, 64.
     ///
     /// # Errors
     ///
@@ -117,7 +119,8 @@ impl Office {
         })
     }
 
-    /// Sets the edition of later texts, which never goes from Two to One.
+    /// Sets the edition in which product texts are written from now on. The caller never goes back
+    /// from `Two` to `One`.
     pub fn set_edition(&mut self, edition: Edition)
         requires { MayFollow self.old.state.edition edition }
         ensures state { self.new.state ≡ in_edition edition self.old.state }
@@ -127,14 +130,15 @@ impl Office {
         self.edition = edition;
     }
 
-    /// Returns the edition of later texts.
+    /// Returns the edition in which product texts are written from now on.
     pub fn edition(&self) -> Edition
         ensures { result ≡ self.now.state.edition }
     {
         self.edition
     }
 
-    /// Returns the number of drafts opened so far, which is the id of the last one.
+    /// Returns the number of drafts opened so far, closed ones too. Ids are given from 1 on, so it
+    /// is the id of the draft opened last, or 0 if there was none.
     pub fn opened_drafts(&self) -> u32
         ensures { result ≡ self.now.state.begun }
     {
@@ -148,7 +152,8 @@ impl Office {
         self.products.len() as u32
     }
 
-    /// Returns the reply to the desk's last accepted request, or `None` if it has none.
+    /// Returns the stored reply to the desk's last accepted request, or `None` if it has none or
+    /// the office has no such desk.
     pub fn kept(&self, desk: Desk) -> Option<&Reply>
         ensures { option_map (λ r. r.now) result
             ≡ option_map (λ said. said.reply) (said_by self.now.state desk) }

@@ -5,7 +5,7 @@ ghost use Rattle.std.specs.Map.{keys_of};
 ghost use Rattle.std.specs.Option.{unwrap_or};
 ghost use Rattle.hazard_types.specs.Hazards.{facts_of};
 ghost use Rattle.hazard_types.specs.Places.{by_place};
-ghost use Rattle.action_planner.specs.Fitting.{are_zones, opens_with};
+ghost use Rattle.action_planner.specs.Fitting.{is_valid_zone_list, opens_with};
 ghost use Rattle.action_planner.specs.Lines.{follows};
 ghost use Rattle.action_planner.specs.Placed.{zones_of};
 ghost use Rattle.office_core.specs.Requests.{draft_of, hazard_of, hazard_of_target, intent_of};
@@ -20,7 +20,7 @@ use hazard_types::{Category, Hazard, List, Oom, Zone};
 use office_types::{Draft, Refusal, Request, Sent, Target};
 use std::alloc::Global;
 
-/// The hazard of a target; for an event, the event's.
+/// Returns the hazard of a put's target: that of a new event, or of the open event that is joined.
 fn hazard_of_target(target: &Target) -> Hazard
     ensures { result ≡ hazard_of_target target.now }
 {
@@ -30,7 +30,7 @@ fn hazard_of_target(target: &Target) -> Hazard
     }
 }
 
-/// The hazard of the intent that a request adds.
+/// Returns the hazard of the intent that a request has, or `None` if it has no intent.
 fn hazard_in(r: &Request) -> Option<Hazard>
     ensures { result ≡ option_map hazard_of (intent_of r.now) }
 {
@@ -44,7 +44,7 @@ fn hazard_in(r: &Request) -> Option<Hazard>
     }
 }
 
-/// The zones of the intent that a request adds.
+/// Returns the zones of the intent that a request has, or `None` if it has no intent.
 fn zones_in(r: &Request) -> Option<&List<Zone>>
     ensures { option_map (λ zones. zones.now) result ≡ option_map zones_of (intent_of r.now) }
 {
@@ -58,7 +58,7 @@ fn zones_in(r: &Request) -> Option<&List<Zone>>
     }
 }
 
-/// Whether a zone may not be named: it is not in the settings, and these do not allow every zone.
+/// Whether the settings neither have the zone nor allow every zone.
 fn is_unknown_zone(settings: &Settings, zone: &Zone) -> bool
     requires { IsStrictlySortedBy by_place (keys_of settings.now.zones) }
     ensures { result ≡ is_unknown_zone settings.now zone.now }
@@ -66,7 +66,8 @@ fn is_unknown_zone(settings: &Settings, zone: &Zone) -> bool
     !settings.any_zone && settings.zone_name(zone).is_none()
 }
 
-/// The first zone that may not be named.
+/// Returns the first of `zones` that the settings neither have nor allow, or `None` if there is
+/// none.
 fn first_unknown(settings: &Settings, zones: &[Zone]) -> Option<Zone>
     requires { IsStrictlySortedBy by_place (keys_of settings.now.zones) }
     ensures { result ≡ find (is_unknown_zone settings.now) zones.now }
@@ -79,7 +80,8 @@ fn first_unknown(settings: &Settings, zones: &[Zone]) -> Option<Zone>
     None
 }
 
-/// `UnknownZone`: a zone is not in the settings.
+/// Returns `UnknownZone` with the first zone of the request's intent that the settings neither have
+/// nor allow, or `None` if there is none.
 fn unknown_zone(settings: &Settings, r: &Request) -> Option<Refusal>
     requires { IsStrictlySortedBy by_place (keys_of settings.now.zones) }
     ensures { result ≡ unknown_zone settings.now (intent_of r.now) }
@@ -88,7 +90,8 @@ fn unknown_zone(settings: &Settings, r: &Request) -> Option<Refusal>
     Some(Refusal::UnknownZone { zone })
 }
 
-/// `UnknownHazard`: the desk issues no such hazard.
+/// Returns `UnknownHazard` if the hazard of the request's intent is not one that the desk issues,
+/// or `None` otherwise.
 fn unknown_hazard(r: &Request) -> Option<Refusal>
     ensures { result ≡ unknown_hazard (intent_of r.now) }
 {
@@ -100,7 +103,8 @@ fn unknown_hazard(r: &Request) -> Option<Refusal>
     }
 }
 
-/// `WrongZoneKind`: a zone is of another kind than the hazard's.
+/// Returns `WrongZoneKind` with the first zone of the request's intent that is not of the kind,
+/// county or public zone, that the intent's hazard has, or `None` if there is none.
 fn wrong_kind(r: &Request) -> Option<Refusal>
     ensures { result ≡ wrong_kind (intent_of r.now) }
 {
@@ -109,7 +113,8 @@ fn wrong_kind(r: &Request) -> Option<Refusal>
     Some(Refusal::WrongZoneKind { zone })
 }
 
-/// Whether products of the category open events of the hazard.
+/// Whether products of the category open events of the hazard. No category does for a hazard that
+/// the desk does not issue.
 fn opens_with(category: Category, hazard: &Hazard) -> bool
     ensures { result ≡ opens_with category (facts_of hazard.now) }
 {
@@ -119,7 +124,8 @@ fn opens_with(category: Category, hazard: &Hazard) -> bool
     }
 }
 
-/// Whether products of the category follow up events of the hazard.
+/// Whether products of the category continue, change and end events of the hazard. No category does
+/// for a hazard that the desk does not issue.
 fn follows(category: Category, hazard: &Hazard) -> bool
     ensures { result ≡ follows category (facts_of hazard.now) }
 {
@@ -129,7 +135,9 @@ fn follows(category: Category, hazard: &Hazard) -> bool
     }
 }
 
-/// Whether the hazard of a target is of the category.
+/// Whether an intent with this target may be in a product of the category. For a new event, the
+/// category must be the one whose products open events of the hazard; for an open event that is
+/// joined, the one whose products continue, change and end events of its hazard.
 fn is_of_category_by(category: Category, target: &Target) -> bool
     ensures { result ≡ is_of_category_by category target.now }
 {
@@ -139,7 +147,9 @@ fn is_of_category_by(category: Category, target: &Target) -> bool
     }
 }
 
-/// Whether the hazard of the intent that a request adds is of the category.
+/// Whether the intent that a request has may be in a product of the category; `true` if the request
+/// has no intent. An intent for a new event needs the category whose products open events of its
+/// hazard, and any other intent the one whose products continue, change and end them.
 fn is_of_category(category: Category, r: &Request) -> bool
     ensures { result ≡ unwrap_or (option_map (is_of_category category) (intent_of r.now)) true }
 {
@@ -153,7 +163,10 @@ fn is_of_category(category: Category, r: &Request) -> bool
     }
 }
 
-/// `WrongCategory`: the hazard is not of the draft's category.
+/// Returns `WrongCategory` if the draft `found` has another category than the request's intent
+/// needs, or `None` otherwise, also without an intent or a draft. An intent for a new event needs
+/// the category whose products open events of its hazard, and any other intent the one whose
+/// products continue, change and end them. `found` is the open draft that the request names.
 fn wrong_category(r: &Request, found: Option<&Draft>) -> Option<Refusal>
     ensures { result ≡ wrong_category (intent_of r.now) (option_map (λ d. d.now) found.entry) }
 {
@@ -170,25 +183,27 @@ fn wrong_category(r: &Request, found: Option<&Draft>) -> Option<Refusal>
 }
 
 /// Whether there are 1 to 600 zones, each once.
-fn are_zones(zones: &[Zone]) -> bool
-    ensures { result ≡ are_zones zones.now }
+fn is_valid_zone_list(zones: &[Zone]) -> bool
+    ensures { result ≡ is_valid_zone_list zones.now }
 {
-    action_planner::are_zones(zones)
+    action_planner::is_valid_zone_list(zones)
 }
 
-/// `BadZoneList`: there is no zone, one of them twice, or more than 600.
+/// Returns `BadZoneList` if the request's intent has no zone, more than 600, or one of them twice,
+/// or `None` otherwise.
 fn bad_zones(r: &Request) -> Option<Refusal>
     ensures { result ≡ bad_zones (intent_of r.now) }
 {
     let zones = zones_in(r)?;
-    if are_zones(zones.as_slice()) {
+    if is_valid_zone_list(zones.as_slice()) {
         None
     } else {
         Some(Refusal::BadZoneList)
     }
 }
 
-/// The product with a number, counted from 1.
+/// Returns the product with this number, or `None` if there is none. `products` are all that were
+/// sent, in order, and have the numbers 1, 2 and so on.
 fn product_in(products: &[Sent], number: usize) -> Option<&Sent>
     ensures { option_map (λ sent. sent.now) result ≡ product_in products.now number }
 {
@@ -200,21 +215,23 @@ fn product_in(products: &[Sent], number: usize) -> Option<&Sent>
 }
 
 impl Office {
-    /// The product with a number, counted from 1.
+    /// Returns the office's product with this number, counted from 1, or `None` if there is none.
     pub(crate) fn product_at(&self, number: u32) -> Option<&Sent>
         ensures { option_map (λ sent. sent.now) result ≡ product_at self.now.state number }
     {
         product_in(&self.products, number as usize)
     }
 
-    /// The first product above a number.
+    /// Returns the office's product with number `number + 1`, or `None` if there is none. Products
+    /// are numbered from 1 in the order in which they were sent.
     pub(crate) fn product_after(&self, number: u32) -> Option<&Sent>
         ensures { option_map (λ sent. sent.now) result ≡ product_at self.now.state (number + 1) }
     {
         product_in(&self.products, number as usize + 1)
     }
 
-    /// `NoProduct`: no product has the number that a correction names.
+    /// Returns `NoProduct` if the request is a correction and no product has the number that it
+    /// names, or `None` otherwise.
     fn no_product(&self, r: &Request) -> Option<Refusal>
         ensures { result ≡ no_product self.now.state r.now }
     {
@@ -230,7 +247,10 @@ impl Office {
         }
     }
 
-    /// The first broken rule on the parts of a request.
+    /// Returns the refusal for the first rule that a request breaks on its zones, its hazard, its
+    /// texts, or the number of the product that it corrects, or `None` if it breaks none of them.
+    /// The rules come in the order UnknownZone, UnknownHazard, WrongZoneKind, WrongCategory,
+    /// BadText, TextTooLong, BadZoneList, NoProduct.
     #[tactic(auto, unfolding(crate::specs::Rules::broken_part))]
     pub(crate) fn broken_part(&self, alloc: Global, r: &Request) -> Result<Option<Refusal>, Oom>
         ensures { IfOk result (λ refused. refused

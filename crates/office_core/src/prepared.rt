@@ -36,7 +36,7 @@ impl Model for Prepared {
 impl Prepared {
     ghost use Rattle.std.specs.Prelude.{◌≡◌, option_map};
 
-    /// Returns the minute of the entry.
+    /// Returns the minute at which the request was accepted.
     pub fn minute(&self) -> Minute
         ensures { result ≡ self.now.entry.minute }
     {
@@ -50,7 +50,8 @@ impl Prepared {
         &self.entry.reply
     }
 
-    /// Returns the text of the product, which a send, an issue and a correction have.
+    /// Returns the text of the product that the request makes, or `None` if it makes none. Only a
+    /// send, an issue and a correction make a product.
     pub fn text(&self) -> Option<&Text>
         ensures { option_map (λ text. text.now) result
             ≡ option_map (λ made. made.sent.text) self.now.made }

@@ -28,8 +28,9 @@ use hazard_types::{Minute, Oom, Or};
 use office_types::{Desk, Entry, Refusal, Request, Sent, equality_of_requests_is_identity};
 use std::alloc::Global;
 
-/// Takes memory for a product: a row for each line that opens one, a count for each event that it
-/// opens, and its own place.
+/// Takes the memory to commit the product `made`: in `board` for a row for each of its lines that
+/// opens one, in `numbers` for a count for each event that it opens, and in `products` for one
+/// more. What is stored in them stays as it is, on an error too.
 fn make_room(
     board: &mut Board,
     numbers: &mut Numbers,
@@ -54,7 +55,9 @@ fn make_room(
 }
 
 impl Office {
-    /// Takes memory for what a request made. Nothing else changes.
+    /// Takes the memory that the board, the counts of numbers and the products need to commit
+    /// `made`, the product of a request; nothing is taken if the request made none. The state stays
+    /// as it is.
     fn reserve(&mut self, made: &Option<Made>) -> Result<(), Oom>
         ensures state { self.new.state ≡ self.old.state }
         ensures counts { self.new.counts ≡ self.old.counts }
@@ -67,7 +70,9 @@ impl Office {
         }
     }
 
-    /// The entry of an accepted request, with the change of the drafts and what was made.
+    /// Returns what `commit` needs of an accepted request: its entry for the journal with the
+    /// reply, the change of the open drafts, and the product. `desk` sends it under the number
+    /// `seq`, it is accepted at minute `t`, and `made` is the product that it makes, if any.
     fn prepared(
         &self,
         alloc: Global,
@@ -103,9 +108,10 @@ impl Office {
         })
     }
 
-    /// Returns the answer to request `seq` of a desk, at a reading of the clock in minutes since
-    /// 2000-01-01T00:00Z UTC: what is to be committed, or that the request is a repetition. All
-    /// memory that `commit` needs is taken here. The state stays as it is, whatever the answer.
+    /// Returns the answer to request `r` of a desk, sent under the number `seq`: `New` with what is
+    /// to be committed, or `Again` if it repeats the desk's last accepted request. `reading` is the
+    /// clock's, in minutes since 2000-01-01T00:00Z UTC. All memory that `commit` needs is taken
+    /// here, and the state stays as it is, whatever the answer.
     ///
     /// # Errors
     ///

@@ -10,7 +10,7 @@ use crate::office::Office;
 use hazard_types::Oom;
 use office_types::{Draft, Reply, Request, SentReply, Word};
 
-/// The open draft `id`.
+/// Returns the draft of `drafts` whose id is `id`, or `None` if there is none.
 pub(crate) fn find_draft(drafts: &[Draft], id: u32) -> Option<&Draft>
     ensures { option_map (λ d. d.now) result ≡ find (is_draft id) drafts.now }
 {
@@ -22,7 +22,8 @@ pub(crate) fn find_draft(drafts: &[Draft], id: u32) -> Option<&Draft>
     None
 }
 
-/// The reply to a request that made a product, with the events that it opened.
+/// Returns the reply to a request that made a product: its number, its minute and the events that
+/// it opened. Without a product, which does not occur, it is a reply on draft 0.
 fn sent_reply(made: &Option<Made>) -> Result<Reply, Oom>
     ensures { IfOk result (λ reply. reply ≡ sent_reply made.now) }
 {
@@ -36,7 +37,8 @@ fn sent_reply(made: &Option<Made>) -> Result<Reply, Oom>
     }
 }
 
-/// The number of intents of draft `id`, 0 if there is no such draft.
+/// Returns how many intents the draft of `drafts` whose id is `id` has, or 0 if there is no such
+/// draft.
 fn intents_of(drafts: &[Draft], id: u32) -> u32
     requires { All (λ (d : OpenDraft). length d.intents ≤ 64) drafts.now }
     ensures { result ≡ length (intents_of (find (is_draft id) drafts.now)) }
@@ -48,7 +50,11 @@ fn intents_of(drafts: &[Draft], id: u32) -> u32
 }
 
 impl Office {
-    /// The reply to a request that made `made`.
+    /// Returns the reply to a request that breaks no rule; the office is still as before the
+    /// request. To an issue, a send and a correction it gives the number, the minute and the opened
+    /// events of `made`, the product; to an added intent the draft's id and the intent's place, the
+    /// number of intents before it; and to any other request the draft's id and what became of it
+    /// (begun, an intent dropped, taken, discarded).
     pub(crate) fn reply_of(&self, r: &Request, made: &Option<Made>) -> Result<Reply, Oom>
         requires ids { self.now.state.begun < 4294967295 }
         ensures { IfOk result (λ reply. reply ≡ reply_of self.now.state r.now made.now) }

@@ -10,7 +10,8 @@ use office_types::{Desk, Refusal, Request};
 use std::alloc::Global;
 
 impl Office {
-    /// Whether the number is the desk's last and the request equals that one.
+    /// Whether `seq` is the number of the desk's last accepted request and `r` equals that request.
+    /// It is `false` if the desk has no accepted request.
     pub(crate) fn is_repeated(&self, desk: &Desk, seq: u32, r: &Request) -> bool
         ensures { result ≡ is_repeated self.now.state desk.now seq r.now }
     {
@@ -20,7 +21,9 @@ impl Office {
         }
     }
 
-    /// The minute of the entry: the later of the reading and the last entry's minute.
+    /// Returns the minute at which a request is accepted: the later of `reading` and the last
+    /// entry's minute. `reading` is the clock's, in minutes since 2000-01-01T00:00Z UTC, from 0 to
+    /// 52,000,000.
     pub(crate) fn minute_of(&self, reading: i64) -> Minute
         requires { is_out reading ≡ false }
         ensures { result ≡ minute_of self.now.state reading }
@@ -28,9 +31,10 @@ impl Office {
         later(minute_at(reading), self.last)
     }
 
-    /// The first broken rule, in their order. Of a repeated request only the desk is judged.
-    ///
-    /// docs/REQUESTS.md, "Refusals".
+    /// Returns the refusal for the first rule that request `seq` of a desk breaks on its desk, its
+    /// number, the clock, its draft or its parts, in this order, or `None` if it breaks none of
+    /// them. `reading` is the clock's, in minutes since 2000-01-01T00:00Z UTC. Of a request that
+    /// repeats the desk's last accepted one only the desk is judged.
     #[tactic(auto, unfolding(crate::specs::Rules::broken_request))]
     pub(crate) fn broken_request(
         &self,

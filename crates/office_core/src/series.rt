@@ -8,7 +8,8 @@ use office_types::Sent;
 /// The most corrections of a product, CCA to CCX.
 const MOST_LETTERS: usize = 24;
 
-/// The category that a product counts for: FLW and FLS count as one.
+/// Returns the category among whose products one of `category` is counted: `Fls` for FLW, which is
+/// counted with FLS, and any other category itself.
 fn counted_as(category: Category) -> Category
     ensures { result ≡ counted_as category }
 {
@@ -18,13 +19,16 @@ fn counted_as(category: Category) -> Category
     }
 }
 
+/// Whether the two categories are the same, or one is FLW and the other FLS, whose products are
+/// counted together.
 fn same_category(a: Category, b: Category) -> bool
     ensures { result ≡ same_category a b }
 {
     counted_as(a) == counted_as(b)
 }
 
-/// The number of the last product of the category, 0 if there is none.
+/// Returns the number of the last of `products`, which are in the order in which they were sent,
+/// that is of the category, or 0 if there is none. FLW and FLS count as one category.
 pub(crate) fn last_of_category(products: &[Sent], category: Category) -> u32
     ensures { result ≡ last_of_category products.now category }
 {
@@ -37,7 +41,8 @@ pub(crate) fn last_of_category(products: &[Sent], category: Category) -> u32
     last
 }
 
-/// The number of the product that a correction counts for: that of a correction is its original.
+/// Returns the number of the product that `sent` corrects, or the number of `sent` itself if it is
+/// no correction.
 pub(crate) fn original_of(sent: &Sent) -> u32
     ensures { result ≡ original_of sent.now }
 {
@@ -47,6 +52,7 @@ pub(crate) fn original_of(sent: &Sent) -> u32
     }
 }
 
+/// Whether `sent` is a correction of the product with number `original`.
 fn corrects(original: u32, sent: &Sent) -> bool
     ensures { result ≡ corrects original sent.now }
 {
@@ -56,7 +62,8 @@ fn corrects(original: u32, sent: &Sent) -> bool
     }
 }
 
-/// The number of corrections of a product, at most 24.
+/// Returns how many of `products` are corrections of the product with number `original`, or 24 if
+/// there are more. A product has at most 24 corrections, with the letters `CCA` to `CCX`.
 pub(crate) fn letters_of(products: &[Sent], original: u32) -> u8
     ensures letters { result ≡ letters_of products.now original }
     ensures few { result ≤ 24 }

@@ -20,14 +20,18 @@ ghost use Rattle.office_core.specs.State.{State, draft_at, first_state};
 ghost use Rattle.office_core.specs.Step.{Accepts, entry_of, state_after};
 ghost use Rattle.office_core.specs.declared.made.Made.{Made};
 
-/// An office of well-formed settings is sound at first.
+/// Law: an office before any request is sound (`IsSound`: what holds of an office between
+/// requests), if its settings have their forms and allow every zone only in training.
 pub fn offices_begin_sound()
     ensures { (settings : Settings) (class : Class) (edition : Edition) →
         HasForms settings → (settings.any_zone ≡ true → is_training class ≡ true) →
         IsSound (first_state settings class edition) [] }
 {}
 
-/// A request that breaks no rule on its desk, its draft and its parts makes a sound product.
+/// Law: in a sound office, a request that has its form, is no repetition and breaks no rule on its
+/// desk, number, clock, draft and parts makes a product of sound parts, or none (`IsSoundMaking`:
+/// at most 64 intents whose zones, hazard and texts fit the settings, or a correction with
+/// printable texts).
 pub fn requests_make_sound_products()
     ensures { (s : State) (counts : List Count) (desk : List ℕ) (seq : ℕ) (r : Request)
         (reading : ℤ) →
@@ -36,27 +40,32 @@ pub fn requests_make_sound_products()
         IsSoundMaking s (making_of s r) }
 {}
 
-/// The product of an open draft is sound.
+/// Law: in a sound office the parts of each open draft are sound (`IsSoundMaking`), which is what a
+/// product needs to be planned of them.
 pub fn open_drafts_are_sound()
     ensures { (s : State) (counts : List Count) (id : ℕ) →
         IsSound s counts → IsSoundMaking s (drafted_by (draft_at s id)) }
 {}
 
-/// The minute of an entry is at most 52,000,000, and not before the last entry's.
+/// Law: in a sound office, the minute at which a request would be accepted is at most 52,000,000
+/// and not before that of the last entry, for a reading of the clock from 0 to 52,000,000.
 pub fn entries_come_in_order()
     ensures { (s : State) (counts : List Count) (reading : ℤ) →
         IsSound s counts → is_out reading ≡ false →
         (s.last ≤ minute_of s reading) × (minute_of s reading ≤ 52000000) }
 {}
 
-/// A sound product may be planned.
+/// Law: in a sound office, a product of sound parts (`IsSoundMaking`) meets what the planner asks
+/// for, at a minute from that of the last entry to 52,000,000.
 pub fn sound_products_may_be_planned()
     ensures { (s : State) (counts : List Count) (t : ℕ) (making : Making) →
         IsSound s counts → s.last ≤ t → t ≤ 52000000 → IsSoundMaking s making →
         MayBePlanned s counts t making }
 {}
 
-/// The plan of a sound product whose lines break no rule may be written.
+/// Law: in a sound office, the plan of a product of sound parts (`IsSoundMaking`) whose lines break
+/// no rule meets what the writing of its text asks for, at a minute from that of the last entry to
+/// 52,000,000.
 pub fn sound_plans_may_be_written()
     ensures { (s : State) (counts : List Count) (t : ℕ) (making : Making) (plan : Plan) →
         IsSound s counts → s.last ≤ t → t ≤ 52000000 → IsSoundMaking s making →
@@ -64,8 +73,8 @@ pub fn sound_plans_may_be_written()
         CanBeText s.settings s.class plan t }
 {}
 
-/// After an accepted request the state is still sound, once the events that it opens have drawn
-/// their numbers.
+/// Law: if an office is sound (`IsSound`) and accepts a request, it is sound after it, with the
+/// counts of event numbers from which the events that the request opened have drawn theirs.
 pub fn accepted_requests_keep_soundness()
     ensures { (s : State) (counts after : List Count) (desk : List ℕ) (seq : ℕ) (r : Request)
         (reading : ℤ) (t : ℕ) (made : Option Made) →

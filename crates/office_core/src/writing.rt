@@ -21,7 +21,7 @@ pub(crate) enum TextRule {
     Short,
 }
 
-/// Whether the byte is `$` or `&` and the next one is the same.
+/// Whether the byte is `$` or `&` and `rest`, the bytes after it, begins with the same one.
 fn is_doubled(byte: u8, rest: &[u8]) -> bool
     ensures { result ≡ is_doubled byte rest.now }
 {
@@ -31,7 +31,8 @@ fn is_doubled(byte: u8, rest: &[u8]) -> bool
     }
 }
 
-/// The index of the first byte that is not printable, or begins `$$` or `&&`.
+/// Returns the index of the first byte that is not one of space to tilde, or that begins `$$` or
+/// `&&`, or `None` if there is none.
 fn bad_at(text: &[u8]) -> Option<usize>
     ensures { result ≡ bad_at text.now }
 {
@@ -43,7 +44,9 @@ fn bad_at(text: &[u8]) -> Option<usize>
     None
 }
 
-/// `BadText`: the text has a byte that is not printable, or `$$` or `&&`.
+/// Returns `BadText` with the index of the first byte that is not one of space to tilde, or that
+/// begins `$$` or `&&`, or `None` if there is none. `field` is the name of the text, which the
+/// refusal gives.
 fn bad_text(alloc: Global, field: &str, text: &[u8]) -> Result<Option<Refusal>, Oom>
     ensures { IfOk result (λ found. found ≡ bad_text field.now text.now) }
 {
@@ -56,7 +59,8 @@ fn bad_text(alloc: Global, field: &str, text: &[u8]) -> Result<Option<Refusal>, 
     }
 }
 
-/// `TextTooLong`: the text has more than 4,096 bytes.
+/// Returns `TextTooLong` if the text has more than 4,096 bytes, or `None` otherwise. `field` is the
+/// name of the text.
 fn long_text(alloc: Global, field: &str, text: &[u8]) -> Result<Option<Refusal>, Oom>
     ensures { IfOk result (λ found. found ≡ long_text field.now text.now) }
 {
@@ -69,8 +73,15 @@ fn long_text(alloc: Global, field: &str, text: &[u8]) -> Result<Option<Refusal>,
     }
 }
 
-/// The refusal of a field's text by a rule.
-fn offence(alloc: Global, rule: TextRule, field: &str, text: &Text) -> Result<Option<Refusal>, Oom>
+/// Returns the refusal of a text that breaks the rule, or `None` if it does not. By `Printable` it
+/// is `BadText` if a byte is not one of space to tilde or begins `$$` or `&&`, and by `Short` it is
+/// `TextTooLong` above 4,096 bytes. `field` is the name of the text, which the refusal gives.
+fn refusal_of_text(
+    alloc: Global,
+    rule: TextRule,
+    field: &str,
+    text: &Text,
+) -> Result<Option<Refusal>, Oom>
     ensures { IfOk result (λ found. found ≡ under rule field.now text.now) }
 {
     match rule {
@@ -79,26 +90,31 @@ fn offence(alloc: Global, rule: TextRule, field: &str, text: &Text) -> Result<Op
     }
 }
 
-/// The refusal of the first field that breaks a rule: what, area, impacts, then details.
+/// Returns the refusal of the first of an event's texts that breaks the rule, or `None` if none
+/// does. `Printable` asks for bytes from space to tilde without `$$` and `&&`, `Short` for at most
+/// 4,096 bytes. The texts come in the order what, area, impacts, details.
 fn first_field(alloc: Global, rule: TextRule, texts: &Texts) -> Result<Option<Refusal>, Oom>
     ensures { IfOk result (λ found. found ≡ first_field (under rule) texts.now) }
 {
-    let what = offence(alloc, rule, "what", &texts.what)?;
+    let what = refusal_of_text(alloc, rule, "what", &texts.what)?;
     if what.is_some() {
         return Ok(what);
     }
-    let area = offence(alloc, rule, "area", &texts.area)?;
+    let area = refusal_of_text(alloc, rule, "area", &texts.area)?;
     if area.is_some() {
         return Ok(area);
     }
-    let impacts = offence(alloc, rule, "impacts", &texts.impacts)?;
+    let impacts = refusal_of_text(alloc, rule, "impacts", &texts.impacts)?;
     if impacts.is_some() {
         return Ok(impacts);
     }
-    offence(alloc, rule, "details", &texts.details)
+    refusal_of_text(alloc, rule, "details", &texts.details)
 }
 
-/// The refusal of the first of the events' texts that breaks a rule.
+/// Returns the refusal of the first new text of a correction that breaks the rule, or `None` if
+/// none does. `Printable` asks for bytes from space to tilde without `$$` and `&&`, `Short` for at
+/// most 4,096 bytes. `given` are the events with their new texts, in the order of the request; the
+/// texts of one event come in the order what, area, impacts, details.
 fn first_given(alloc: Global, rule: TextRule, given: &[EventTexts]) -> Result<Option<Refusal>, Oom>
     ensures { IfOk result
         (λ found. found ≡ first_texts (under rule) (map (λ (x : TextsOn). x.texts) given.now)) }
@@ -112,7 +128,10 @@ fn first_given(alloc: Global, rule: TextRule, given: &[EventTexts]) -> Result<Op
     Ok(None)
 }
 
-/// The refusal of the first text of a request that breaks a rule.
+/// Returns the refusal of the first text of a request that breaks the rule, or `None` if none does
+/// or it has no texts. `Printable` asks for bytes from space to tilde without `$$` and `&&`,
+/// `Short` for at most 4,096 bytes. The texts of an event come in the order what, area, impacts,
+/// details, and the events of a correction in the order in which it gives them.
 pub(crate) fn first_text(alloc: Global, rule: TextRule, r: &Request) -> Result<Option<Refusal>, Oom>
     ensures { IfOk result (λ found. found ≡ first_texts (under rule) (texts_in r.now)) }
 {

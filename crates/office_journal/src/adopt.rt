@@ -24,8 +24,9 @@ use journal_core::Journal;
 use std::alloc::Global;
 
 impl<D: Disk> KeptOffice<D> {
-    /// Opens the office whose journal is in the file of the disk. Checks each of its requests
-    /// again, in order, against the requests before it. Syncs the disk and writes nothing.
+    /// Opens and returns the office whose journal is in the file of the disk. Checks each of the
+    /// journal's requests again, in order, against the requests before it. Syncs the disk and
+    /// writes nothing.
     ///
     /// # Errors
     ///
@@ -99,7 +100,10 @@ impl<D: Disk> KeptOffice<D> {
     }
 }
 
-/// Opens the office of a journal that has these bodies.
+/// Returns the office that the bodies `all` of a journal make, in their order. There is at least
+/// one body, the text of the settings, and `journal` has just these. Otherwise the disk comes back
+/// with `Damaged`, with the place in bytes from 0 of the first body that fails, or with
+/// `OutOfMemory`.
 fn office_of<D: Disk>(
     alloc: Global,
     journal: Journal<D>,

@@ -31,8 +31,9 @@ use office_types::Edition;
 use std::alloc::Global;
 
 impl<D: Disk> KeptOffice<D> {
-    /// Makes the journal of an office on a disk with a fresh file, in edition Two. `settings` is
-    /// the text of the settings' file, which the journal has byte for byte.
+    /// Makes the journal of a new office on a disk whose file is fresh (at most one byte, or `.`
+    /// first), and returns the office, in edition Two. `settings` is the text of the settings'
+    /// file, which the journal has byte for byte.
     ///
     /// # Errors
     ///
@@ -116,7 +117,9 @@ impl<D: Disk> KeptOffice<D> {
     }
 }
 
-/// Returns the office before any request, and the first two bodies of its journal.
+/// Returns the office of these settings, in edition One and before any request, and the first two
+/// bodies of its journal. These are `text`, which is the text of the settings' file, at most
+/// 1,048,576 bytes, and the mark of edition Two.
 fn beginnings(
     alloc: Global,
     text: &[u8],
@@ -134,7 +137,10 @@ fn beginnings(
     Ok((office, body, second))
 }
 
-/// Makes the journal of an office whose settings were parsed.
+/// Makes the journal of a new office on a disk whose file is fresh (at most one byte, or `.`
+/// first), and returns the office, in edition Two. `text` is the text of the settings' file, and
+/// `settings` what was read from it. Otherwise the disk comes back with `NotFresh`, `DiskFault` or
+/// `OutOfMemory`.
 fn make<D: Disk>(
     alloc: Global,
     disk: D,
@@ -175,12 +181,14 @@ fn make<D: Disk>(
         return Err((disk, KeepFault::OutOfMemory));
     };
     match first_journal(disk, &body) {
-        Ok(journal) => go_over(journal, office, &second),
+        Ok(journal) => append_edition_mark(journal, office, &second),
         Err(failed) => Err(failed),
     }
 }
 
-/// Makes a journal of the settings' file alone.
+/// Makes and returns a journal whose only body is `body`, the text of the settings' file, on a disk
+/// whose file is fresh (at most one byte, or `.` first). Otherwise the disk comes back with
+/// `NotFresh` or `DiskFault`.
 fn first_journal<D: Disk>(disk: D, body: &Packet) -> Result<Journal<D>, (D, KeepFault)>
     ensures fresh { (bytes : List ℕ) → D.seen disk ≡ Some bytes → OnOk result (Fresh bytes) }
     ensures ok { (bytes : List ℕ) → D.seen disk ≡ Some bytes → IfOk result
@@ -213,8 +221,10 @@ fn first_journal<D: Disk>(disk: D, body: &Packet) -> Result<Journal<D>, (D, Keep
     }
 }
 
-/// Appends the mark of edition Two to a journal that was just made.
-fn go_over<D: Disk>(
+/// Appends `second`, the mark of edition Two, to a journal that was just made, and returns the
+/// office in edition Two. `office` is in edition One and before any request, and the journal must
+/// have room for the mark. Otherwise the disk comes back with `DiskFault`.
+fn append_edition_mark<D: Disk>(
     mut journal: Journal<D>,
     mut office: Office,
     second: &Packet,

@@ -8,9 +8,10 @@ use office_types::{Desk, Edition, Request};
 use request_json::text_of_request;
 use std::alloc::Global;
 
-/// Returns the body of the entry of a prepared request: the stamp of its minute, a blank and the
-/// canonical text of the request; in edition Two also a line feed and the text of its product, if
-/// it makes one. `desk`, `seq` and `r` are those that were prepared.
+/// Returns the body of the entry of the prepared request `p`: the stamp of its minute, a blank and
+/// the canonical text of the request; in edition Two also a line feed and the text of its product,
+/// if it makes one. `desk`, `seq` (the request's number), the request `r` and `edition` are those
+/// that `p` was prepared with. Errs if memory runs out.
 ///
 /// Source: docs/JOURNAL.md, "The file, byte by byte".
 pub(crate) fn entry_body(

@@ -14,7 +14,8 @@ use office_core::a_request_has_one_answer;
 use request_json::canonical_texts_are_lines;
 
 impl<D: Disk> KeptOffice<D> {
-    /// A crash now leaves an image of the history, or of the history and the pending change.
+    /// A crash now leaves a journal of the office's history, or of this history and the pending
+    /// change after it. A change is pending if a fault of the disk has interrupted its append.
     pub fn a_crash_leaves_the_history(&self)
         ensures { (file : List ℕ) (h : History) (pending : Option Change) (c : List ℕ)
             → Holds D.seen D.crash self.now file h pending
@@ -24,16 +25,17 @@ impl<D: Disk> KeptOffice<D> {
         a_crash_leaves_the_bodies();
     }
 
-    /// A request that is in the history as the last of its desk, and is sent again, has no further
-    /// effect, whether or not it was answered before a crash. At any reading it gets the same
-    /// reply, or memory runs out, and nothing changes.
+    /// A request that is in the history as the last of its desk, and is submitted again, has no
+    /// further effect, whether or not it was answered before a crash. At any reading of the clock
+    /// the answer is `Repeated` with the same reply, or `OutOfMemory`, and nothing changes.
     pub fn a_request_sent_again_has_one_effect(&self)
         ensures { HasOneEffect D.seen D.crash D.faults self.now }
     {}
 }
 
-/// A file is an image of at most one settings' file and history, and is then neither damaged nor
-/// fresh. A damaged file is damaged at one place.
+/// A file is the journal of at most one settings' text and history. If it is such a journal, it is
+/// neither damaged nor fresh (at most one byte, or `.` first). A damaged file is damaged at one
+/// place.
 pub fn files_hold_one_history()
     ensures one { (bytes file other : List ℕ) (h g : History) → ImageOf bytes file h
         → ImageOf bytes other g → (file ≡ other) × (h ≡ g) }

@@ -5,21 +5,23 @@ ghost use Rattle.request_json.specs.Formed.{HasForm};
 ghost use Rattle.request_json.specs.declared.asked.Asked.{Asked as Request};
 ghost use Rattle.office_journal.specs.Parts.{is_line_feed, line_of, minute_in, request_in};
 
-use hazard_types::{Minute, Oom, Or, read_stamp};
+use hazard_types::{Minute, Oom, Or, parse_stamp};
 use request_json::{Asked, read_request};
 use std::alloc::Global;
 
 /// The length in bytes of what comes before a request: the stamp of its minute and a blank.
 const FRONT: usize = 13;
 
-/// Returns how many bytes the record of a body has, from its gate to the next one.
+/// Returns the length in bytes of the journal record of a body: one for the gate, four for the
+/// length, and the body.
 pub(crate) fn record_length(body: &[u8]) -> u64
     ensures { result ≡ 5 + length body.now }
 {
     5 + body.len() as u64
 }
 
-/// Returns the minute of the stamp at the start of a body that has at least one byte after it.
+/// Returns the minute of the 12-byte stamp at the start of a body. `None` if the body has less than
+/// 13 bytes, or no stamp there.
 pub(crate) fn minute_in(body: &[u8]) -> Option<Minute>
     ensures minute { result ≡ minute_in body.now }
     ensures long { OnSome result (13 ≤ length body.now) }
@@ -27,10 +29,10 @@ pub(crate) fn minute_in(body: &[u8]) -> Option<Minute>
     if body.len() < FRONT {
         return None;
     }
-    read_stamp(&body[..FRONT - 1])
+    parse_stamp(&body[..FRONT - 1])
 }
 
-/// Returns the place of the first line feed, in bytes from 0.
+/// Returns the index of the first line feed, or `None` if there is none.
 fn line_end(bytes: &[u8]) -> Option<usize>
     ensures place { result ≡ position is_line_feed bytes.now }
     ensures within { IfSome result (λ at. at < length bytes.now) }
@@ -48,7 +50,8 @@ fn line_of(bytes: &[u8]) -> &[u8]
     }
 }
 
-/// Parses the request in a body; `None` if it has none.
+/// Returns the request in the body of an entry, or `None` if its text is not one. The text is what
+/// comes after the first 13 bytes, which must be there, up to the first line feed.
 pub(crate) fn asked_in(alloc: Global, body: &[u8]) -> Result<Option<Asked>, Oom>
     requires { 13 ≤ length body.now }
     ensures form { IfOk result (λ asked. IfSome asked HasForm) }

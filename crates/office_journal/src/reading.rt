@@ -12,14 +12,15 @@ use office_types::{Edition, Query, Refusal};
 use std::alloc::Global;
 
 impl<D: Disk> KeptOffice<D> {
-    /// Returns how many requests were accepted, of all runs.
+    /// Returns how many requests were accepted since the journal was made, over all runs of the
+    /// program.
     pub fn entries(&self) -> u64
         ensures { result ≡ entries_of self.now }
     {
         self.entries
     }
 
-    /// Returns how many products were sent.
+    /// Returns how many products were sent since the journal was made.
     pub fn products(&self) -> u32
         ensures { result ≡ length (state_of self.now).products }
     {
@@ -33,14 +34,17 @@ impl<D: Disk> KeptOffice<D> {
         self.office.edition()
     }
 
-    /// Returns the text of what is looked at: the board at the reading, a product as it was sent, a
-    /// draft as JSON, or what a send of a draft would write now. `reading` is the clock's, in
-    /// minutes since 2000-01-01T00:00Z UTC.
+    /// Returns the text of what `q` asks for: the rows that are live at `reading`, one a line; a
+    /// product as it was sent, the one with a number or the first above a number; a draft as JSON;
+    /// or what a send of a draft would write at the later of `reading` and the minute of the last
+    /// entry. `reading` is the clock's, in minutes since 2000-01-01T00:00Z.
     ///
     /// # Errors
     ///
-    /// `Or::No` with `ClockOut` for the board and a preview, `NoProduct`, `NoDraft`, or the first
-    /// rule that the lines or the text of a preview break; otherwise out of memory.
+    /// `Or::No` with `ClockOut` for the board and a preview if `reading` is outside 0 to
+    /// 52,000,000, with `NoProduct` or `NoDraft` if there is no such product or draft, or for a
+    /// preview with the refusal for the first rule that its lines or its text would break;
+    /// otherwise out of memory.
     pub fn look(&self, alloc: Global, q: &Query, reading: i64) -> Result<Text, Or<Refusal>>
         ensures shows { IfOk result (λ text. Shows (state_of self.now) q.now reading text) }
         ensures refused { (x : Refused) → result ≡ Err (No x)
@@ -49,7 +53,7 @@ impl<D: Disk> KeptOffice<D> {
         self.office.look(alloc, q, reading)
     }
 
-    /// Returns the disk that has the journal.
+    /// Gives up the office and returns the disk that has its journal.
     pub fn into_disk(self) -> D
         ensures { result ≡ disk_of self }
     {

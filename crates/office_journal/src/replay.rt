@@ -28,7 +28,9 @@ pub(crate) struct Replayed {
     pub(crate) size: u64,
 }
 
-/// Builds an office from the bodies of its journal.
+/// Returns the office that the bodies `all` of a journal make, in their order, with the count of
+/// entries and the length of their records. The first body is the text of the settings, and each
+/// other one an entry or the mark of edition Two; there must be at least one.
 ///
 /// # Errors
 ///
@@ -45,13 +47,15 @@ pub(crate) fn replay(alloc: Global, all: &[Text]) -> Result<Replayed, Or<u64>>
     };
     let first = Replayed::first(alloc, file.as_slice())?;
     match first {
-        Some(found) => go_on(alloc, found, file.as_slice(), others),
+        Some(found) => replay_others(alloc, found, file.as_slice(), others),
         None => Err(Or::No(0)),
     }
 }
 
-/// Takes the bodies after the settings' file, one after another.
-fn go_on(
+/// Returns the office after the bodies `others`, which come in this order after `file`, the text of
+/// the settings. `found` is the office that `file` alone makes. Errs with `Or::No` and the place,
+/// in bytes from 0, of the first body that fails, or out of memory.
+fn replay_others(
     alloc: Global,
     mut found: Replayed,
     file: &[u8],
@@ -69,8 +73,8 @@ fn go_on(
     Ok(found)
 }
 
-/// Returns what an office prepares for a request at this minute; `None` if it does not accept it as
-/// a new request.
+/// Returns what an office prepares for a request at this minute. `None` if the office refuses the
+/// request, or if the request is the last one of its desk again. The office's state stays as it is.
 fn prepared(
     alloc: Global,
     office: &mut Office,
@@ -94,7 +98,8 @@ fn prepared(
     }
 }
 
-/// Whether `body` is that of the entry of the prepared request.
+/// Whether `body` is, byte for byte, the body of the entry of the prepared request `p`. `asked` is
+/// the request with its desk and number, and `edition` the edition, that `p` was prepared with.
 fn is_body_of(
     alloc: Global,
     body: &[u8],
@@ -112,8 +117,10 @@ fn is_body_of(
     Ok(written.as_slice() == body)
 }
 
-/// Returns what an office prepares for the request in a body; `None` if the body is not exactly
-/// that of its entry.
+/// Returns what an office prepares for the request in the body of an entry, at the minute in the
+/// body. `None` if the body has no minute or no request, if the office refuses the request or has
+/// it as the last one of its desk, or if it would write another body for its entry. The office's
+/// state stays as it is.
 fn judge_body(alloc: Global, office: &mut Office, body: &[u8]) -> Result<Option<Prepared>, Oom>
     requires ids { office.old.state.begun < 4294967295 }
     ensures state { office.new.state ≡ office.old.state }
@@ -130,8 +137,9 @@ fn judge_body(alloc: Global, office: &mut Office, body: &[u8]) -> Result<Option<
     }
 }
 
-/// Returns what an office prepares for a request that was read from a body, at the body's minute;
-/// `None` if the body is not exactly that of its entry.
+/// Returns what an office prepares for `asked`, the request in `body`, at `minute`, the minute in
+/// `body`. `None` if the office refuses it or would write another body or minute for its entry. The
+/// office's state stays as it is.
 fn judge_as(
     alloc: Global,
     office: &mut Office,
@@ -164,8 +172,8 @@ fn judge_as(
 }
 
 impl Replayed {
-    /// Builds the office of the settings' file, before any request; `None` if the file is no
-    /// settings.
+    /// Returns the office of `file`, the text of the settings, in edition One and before any
+    /// request, or `None` if the text is no settings.
     fn first(alloc: Global, file: &[u8]) -> Result<Option<Self>, Oom>
         ensures { IfOk result (Begins file.now) }
     {
@@ -183,14 +191,18 @@ impl Replayed {
         }))
     }
 
-    /// Whether a body is the mark of edition Two and may come next.
+    /// Whether `body` is the mark of edition Two and may come next, which is so while the office is
+    /// in edition One.
     fn goes_over(&self, body: &[u8]) -> bool
         ensures { Decides result ((body.now ≡ mark) × (self.now.office.state.edition ≡ One)) }
     {
         body == b"edition 2".as_slice() && self.office.edition() == Edition::One
     }
 
-    /// Takes the next body. Returns whether it may come next.
+    /// Applies the next body to the office, and returns true: the mark of edition Two while the
+    /// office is in edition One, or, byte for byte, the body that the office would write for a new
+    /// request that it accepts, unless that makes the file longer than 268,435,456 bytes. Returns
+    /// false for any other body; the office's state and the counts are then as before.
     fn take(&mut self, alloc: Global, body: &[u8]) -> Result<bool, Oom>
         requires begun { self.old.office.state.begun ≤ self.old.entries }
         requires recorded { self.old.entries ≤ self.old.size }
@@ -207,7 +219,10 @@ impl Replayed {
         self.take_entry(alloc, body)
     }
 
-    /// Takes the body of an entry. Returns whether it may come next.
+    /// Commits the request of an entry's body to the office, and returns true. Returns false if the
+    /// body is not, byte for byte, the one that the office would write now for a new request that
+    /// it accepts, or if it makes the file longer than 268,435,456 bytes; the office's state and
+    /// the counts are then as before.
     fn take_entry(&mut self, alloc: Global, body: &[u8]) -> Result<bool, Oom>
         requires begun { self.old.office.state.begun ≤ self.old.entries }
         requires recorded { self.old.entries ≤ self.old.size }

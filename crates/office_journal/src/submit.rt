@@ -9,7 +9,7 @@ ghost use Rattle.request_json.specs.Replies.{reply_text};
 ghost use Rattle.office_core.specs.Prepared.{IsReady};
 ghost use Rattle.office_core.specs.State.{said_by};
 ghost use Rattle.office_core.specs.Step.{Refuses, Repeats, entry_of};
-ghost use Rattle.office_journal.specs.Changes.{Change, Leaves, body_of, changed};
+ghost use Rattle.office_journal.specs.Changes.{Change, Leaves, body_of};
 ghost use Rattle.office_journal.specs.Histories.{History};
 ghost use Rattle.office_journal.specs.Kept.{Holds, disk_of, gate_of, state_of};
 ghost use Rattle.office_journal.specs.Outcomes.{Becomes, IsAgain, IsUnkept, Names, ComesWith};
@@ -50,7 +50,7 @@ impl Model for KeptReply {
 impl KeptReply {
     ghost use Rattle.std.specs.Prelude.{◌≡◌};
 
-    /// Returns the text, to be written.
+    /// Returns the text of the reply, as it is to be written to the desk.
     pub fn into_text(self) -> Text
         ensures { result ≡ self }
     {
@@ -58,7 +58,8 @@ impl KeptReply {
     }
 }
 
-/// Returns an answer, and with an acceptance or a disk fault also what was prepared.
+/// Returns the pair of `answer` and, if that is `Accepted` or `DiskFault`, `p`, which is what was
+/// prepared for the request; with any other answer the second part is `None`.
 fn with_prepared(answer: Answer, p: Snapshot<Prepared>) -> (Answer, Option<Snapshot<Prepared>>)
     ensures answer { result.0 ≡ answer }
     ensures told { ComesWith answer p.value (option_map (λ told. told.value) result.1) }
@@ -71,8 +72,9 @@ fn with_prepared(answer: Answer, p: Snapshot<Prepared>) -> (Answer, Option<Snaps
 }
 
 impl<D: Disk> KeptOffice<D> {
-    /// Submits the request of a desk with its number `seq`, at a reading of the clock in minutes
-    /// since 2000-01-01T00:00Z UTC. Takes all memory before the first call of the disk.
+    /// Submits the request `r` of a desk under the desk's number `seq`, and returns the answer.
+    /// `reading` is the clock's, in minutes since 2000-01-01T00:00Z UTC. All memory is taken before
+    /// the first call of the disk.
     ///
     /// Source: docs/REQUESTS.md, "Desks and numbers" and "The disk and the memory".
     pub fn submit(
@@ -109,8 +111,10 @@ impl<D: Disk> KeptOffice<D> {
         answer
     }
 
-    /// Does what `submit` does. With an acceptance or a disk fault it also returns what was
-    /// prepared, which takes no memory, for callers whose contracts name its entry.
+    /// Submits the request `r` of a desk under the desk's number `seq`, and returns the answer.
+    /// With `Accepted` or `DiskFault` it also returns what was prepared, for callers whose
+    /// contracts name its entry, and with any other answer `None`. `reading` is the clock's, in
+    /// minutes since 2000-01-01T00:00Z UTC.
     pub fn submit_with_prepared(
         &mut self,
         alloc: Global,
@@ -158,7 +162,8 @@ impl<D: Disk> KeptOffice<D> {
         }
     }
 
-    /// Returns the answer to a desk's last request when it comes again.
+    /// Returns the answer to a desk's last accepted request when it is sent again: `Repeated` with
+    /// the reply that it had, or `OutOfMemory`. The desk must have an accepted request.
     fn repeated_answer(&self, alloc: Global, desk: Desk) -> Answer
         requires { is_some (said_by (state_of self.now) desk) ≡ true }
         ensures { IsAgain (said_by (state_of self.now) desk) result }
@@ -169,7 +174,8 @@ impl<D: Disk> KeptOffice<D> {
         }
     }
 
-    /// Returns the text of a desk's last reply.
+    /// Returns the text of the reply to a desk's last accepted request; the desk must have one.
+    /// Errs if memory runs out.
     fn kept_reply(&self, alloc: Global, desk: Desk) -> Result<Text, Oom>
         requires { is_some (said_by (state_of self.now) desk) ≡ true }
         ensures { IfOk result
@@ -182,7 +188,9 @@ impl<D: Disk> KeptOffice<D> {
         }
     }
 
-    /// Returns the reply to a prepared request, and the body of its entry.
+    /// Returns the text of the reply to the prepared request `p`, and the body of its journal
+    /// entry. `desk`, `seq` (the request's number) and the request `r` are those that `p` was
+    /// prepared with. Errs if memory runs out.
     fn reply_and_body(
         &self,
         alloc: Global,
@@ -201,8 +209,10 @@ impl<D: Disk> KeptOffice<D> {
         Ok((reply, body))
     }
 
-    /// Returns the reply to a prepared request, and its entry ready to be appended. Returns the
-    /// answer instead if the entry has no room or memory runs out.
+    /// Returns the text of the reply to the prepared request `p`, and the body of its journal entry
+    /// ready to be appended. Errs with the answer to give: `Refused` with `JournalFull` if the
+    /// entry has no room in the journal, or `OutOfMemory`. `desk`, `seq` (the request's number) and
+    /// the request `r` are those that `p` was prepared with.
     fn reply_and_packet(
         &self,
         alloc: Global,
@@ -231,7 +241,10 @@ impl<D: Disk> KeptOffice<D> {
         }
     }
 
-    /// Appends the entry of a prepared request, if it has room, and commits it.
+    /// Appends the entry of the prepared request `p` to the journal, commits it to the office, and
+    /// returns `Accepted` with its reply. If the entry has no room, the disk fails or memory runs
+    /// out, it returns that as the answer, and the office's state is as before. `desk`, `seq` (the
+    /// request's number) and the request `r` are those that `p` was prepared with.
     fn append_prepared(
         &mut self,
         alloc: Global,
@@ -258,7 +271,9 @@ impl<D: Disk> KeptOffice<D> {
         }
     }
 
-    /// Appends the entry of a prepared request and commits it.
+    /// Appends `packet`, the body of the entry of the prepared request `p`, to the journal, commits
+    /// `p` to the office, and returns `Accepted` with `reply`. The journal must have room for the
+    /// body. Returns `DiskFault` if the disk fails; the office's state is then as before.
     #[tactic(auto, using(crate::proofs::Entering::begun_next))]
     fn append(&mut self, packet: &Packet, p: Prepared, reply: Text) -> Answer
         requires ready { MayEnter self.old.office p }

@@ -18,7 +18,10 @@ use office_types::Edition;
 use std::alloc::Global;
 
 impl<D: Disk> KeptOffice<D> {
-    /// Appends the mark of edition Two to the journal. Texts are of edition Two from then on.
+    /// Appends the mark of edition Two to the journal, and returns `Done`; or `Already` if the
+    /// edition was Two, `Full` if the journal has no room for the mark, `DiskFault` or
+    /// `OutOfMemory`. After `Done` the office writes texts of edition Two; otherwise its edition is
+    /// as before.
     ///
     /// Source: docs/JOURNAL.md, "The file, byte by byte"; docs/PRODUCTS.md, "Editions".
     pub fn upgrade(&mut self, alloc: Global) -> Upgrade

@@ -25,7 +25,7 @@ impl<D: Disk> HasStory<Story<D>> for KeptOffice<D> {
 pub type SharedOffice<D> = WithStory<KeptOffice<D>, Story<D>>;
 
 impl<D: Disk> WithStory<KeptOffice<D>, Story<D>> {
-    /// Returns a shared office of `kept`, to which nothing has happened yet.
+    /// Returns the office `kept` together with an empty history, to be shared by threads.
     pub fn open(alloc: Global, kept: KeptOffice<D>) -> Self
         ensures opened { result.story.opened.value ≡ kept }
         ensures kept { result.kept ≡ kept }
@@ -42,7 +42,7 @@ impl<D: Disk> WithStory<KeptOffice<D>, Story<D>> {
         }
     }
 
-    /// Returns the office, and drops the history.
+    /// Returns the office as it is now, and drops the history of what happened to it.
     pub fn into_kept(self) -> KeptOffice<D>
         ensures same { result ≡ self.kept }
         ensures since { IsSince D.Disk self.story.opened.value result self.story.happenings.items }

@@ -17,8 +17,10 @@ use request_json::Asked;
 use std::alloc::Global;
 use std::snapshot::Snapshot;
 
-/// Appends what an answer says to have happened. `told` is what was prepared, of an accepted
-/// request and of a disk fault.
+/// Appends to `happenings` what an answer did to the office: an `Entry` for an accepted request, a
+/// `Fault` for a disk fault, and nothing for another answer. `told` is a snapshot of the entry that
+/// was prepared, which is given with these two answers, and `now` is one of the office after the
+/// answer. `happenings` must have capacity for one more.
 fn note<D: Disk>(
     happenings: &mut Vec<Happening<D>>,
     answer: &Answer,
@@ -44,8 +46,10 @@ fn note<D: Disk>(
 }
 
 impl<D: Disk> WithStory<KeptOffice<D>, Story<D>> {
-    /// Submits a request at a reading of the clock, in minutes since 2000-01-01T00:00Z UTC, and
-    /// returns its answer. All memory is taken before the first call of the disk.
+    /// Submits the request `asked` of a desk to the office, appends to the history what it did (an
+    /// entry, a disk fault or nothing), and returns the answer. `reading` is the clock's, in
+    /// minutes since 2000-01-01T00:00Z UTC. If there is no memory for the history, the answer is
+    /// `OutOfMemory` and nothing is submitted.
     pub fn submit(&mut self, alloc: Global, asked: &Asked, reading: i64) -> Answer
         requires form { HasForm asked.now }
         ensures opened { self.new.story.opened.value ≡ self.old.story.opened.value }
@@ -67,8 +71,10 @@ impl<D: Disk> WithStory<KeptOffice<D>, Story<D>> {
         answer
     }
 
-    /// Returns what `q` asks to see, at a reading of the clock, in minutes since 2000-01-01T00:00Z
-    /// UTC.
+    /// Returns the text of what `q` asks for: the rows that are live at `reading`, one a line; a
+    /// product as it was sent; a draft as JSON; or what a send of a draft would write at the later
+    /// of `reading` and the minute of the last entry. `reading` is the clock's, in minutes since
+    /// 2000-01-01T00:00Z UTC. Nothing is changed.
     ///
     /// # Errors
     ///

@@ -13,8 +13,10 @@ use std::alloc::Global;
 use std::sync::Wait;
 use turn_lock::{Pass, TurnLock};
 
-/// Submits a request in a turn of its own, and returns its answer. It may wait for the turn, and
-/// reads the clock in it.
+/// Submits the request `asked` to the office in `lock`, in a turn in which no other thread uses it,
+/// and returns the answer. It waits by `rt` until the turn comes, and only then reads `clock` for
+/// the minute of the request. `pass` is the caller's right to take turns, and must be one of this
+/// lock.
 pub fn submit_in_turn<R: Wait, D: Disk, C: Clock>(
     rt: &R,
     lock: &TurnLock<WithStory<KeptOffice<D>, Story<D>>>,
@@ -38,12 +40,16 @@ pub fn submit_in_turn<R: Wait, D: Disk, C: Clock>(
     )
 }
 
+/// Accepts only a value that may move to another thread (`Send`). Does nothing; it is there for the
+/// compiler's check.
 fn may_cross<X: Send>(_value: &X) {}
 
+/// Accepts only a value that threads may share (`Sync`). Does nothing; it is there for the
+/// compiler's check.
 fn may_be_shared<X: Sync>(_value: &X) {}
 
-/// Shows that a lock over a shared office may be shared by threads, and that passes and jobs may
-/// cross them.
+/// Does nothing. It compiles only if threads may share a lock over a shared office (`Sync`), and
+/// its passes and the jobs `Submit` and `Look` may move to another thread (`Send`).
 fn cross<D: Disk + Send, C: Sync>(
     lock: &TurnLock<WithStory<KeptOffice<D>, Story<D>>>,
     pass: &Pass<WithStory<KeptOffice<D>, Story<D>>>,

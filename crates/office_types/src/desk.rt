@@ -1,5 +1,5 @@
 //! The names of desks.
-ghost use Rattle.std.specs.Prelude.{◌≡◌, ◌≤◌, ◌&&◌, if◌then◌else◌, length, nat_le, List, ℕ, IsTrue};
+ghost use Rattle.std.specs.Prelude.{◌≡◌, ◌≤◌, ◌&&◌, if◌then◌else◌, length, List, ℕ, IsTrue};
 ghost use Rattle.office_types.specs.Desks.{is_desk_name, padded};
 
 use hazard_types::are_name_bytes;
@@ -33,14 +33,14 @@ impl Model for Desk {
     ghost inverse_ok = { λ d h. λ i. record { name = (padded_back d.name d.count h).0 i; count = (padded_back d.name d.count h).1 i } };
 }
 
-/// Whether the bytes are a desk's name.
+/// Whether the bytes are a desk's name: 1 to 16 characters of A-Z and 0-9.
 fn is_desk_name(bytes: &[u8]) -> bool
     ensures { result ≡ is_desk_name bytes.now }
 {
     !bytes.is_empty() && bytes.len() <= MOST && are_name_bytes(bytes)
 }
 
-/// Returns the bytes, with zeros up to 16.
+/// Returns the bytes, at most 16, filled up with zeros to 16.
 fn padded(bytes: &[u8]) -> [u8; 16]
     requires { length bytes.now ≤ 16 }
     ensures { result ≡ padded bytes.now }
@@ -51,7 +51,8 @@ fn padded(bytes: &[u8]) -> [u8; 16]
 }
 
 impl Desk {
-    /// Returns the desk with this name, or `None` if the bytes are not a desk's name.
+    /// Returns the desk with this name, or `None` if the bytes are not 1 to 16 characters of A-Z
+    /// and 0-9.
     #[tactic(auto, using(crate::proofs::DeskNames::padded_name, crate::proofs::DeskNames::padded_take))]
     pub fn new(bytes: &[u8]) -> Option<Self>
         ensures { result ≡ (if is_desk_name bytes.now then Some bytes.now else None) }

@@ -18,14 +18,15 @@ impl fmt::Display for Refusal {
     fn fmt<W: fmt::Write>(&self, f: &mut fmt::Formatter<W>) -> fmt::Result {
         let (code, name, _status) = self.label();
         write!(f, "{code} {name}: ")?;
-        put_call_refusal(self, f)
+        write_call_refusal(self, f)
     }
 }
 
 impl Error for Refusal {}
 
-/// Writes what is wrong, for a refusal of a call or of its text; passes others on.
-fn put_call_refusal<W: fmt::Write>(refusal: &Refusal, f: &mut fmt::Formatter<W>) -> fmt::Result {
+/// Writes what is wrong, in words without the code, for a refusal of an HTTP call (F1 to F6) or of
+/// the text of a request (J1 to J3). Any other refusal is left to `write_desk_refusal`.
+fn write_call_refusal<W: fmt::Write>(refusal: &Refusal, f: &mut fmt::Formatter<W>) -> fmt::Result {
     match refusal {
         Refusal::BadHead => f.write_str(
             "no head of HTTP/1.0 or 1.1, or its Content-Length is not one number",
@@ -37,13 +38,14 @@ fn put_call_refusal<W: fmt::Write>(refusal: &Refusal, f: &mut fmt::Formatter<W>)
         Refusal::BodyTooLong => f.write_str("the body would have more than 65536 bytes"),
         Refusal::LineTooLong => f.write_str("the line has more than 65536 bytes"),
         Refusal::NotJson => f.write_str("the line is no JSON text"),
-        Refusal::WrongShape { field } => put_wrong_shape(field, f),
-        _ => put_desk_refusal(refusal, f),
+        Refusal::WrongShape { field } => write_wrong_shape(field, f),
+        _ => write_desk_refusal(refusal, f),
     }
 }
 
-/// Writes what is wrong with a field: `?` is an unknown key, `.` a value that is not an object.
-fn put_wrong_shape<W: fmt::Write>(field: &Text, f: &mut fmt::Formatter<W>) -> fmt::Result {
+/// Writes what is wrong with a field of a request. `field` is its name, `?` for an unknown key, or
+/// `.` for a request that is not a JSON object.
+fn write_wrong_shape<W: fmt::Write>(field: &Text, f: &mut fmt::Formatter<W>) -> fmt::Result {
     match text_of(field.as_slice()) {
         "." => f.write_str("the line is no JSON object"),
         "?" => f.write_str("the request has a key that it must not have"),
@@ -51,8 +53,9 @@ fn put_wrong_shape<W: fmt::Write>(field: &Text, f: &mut fmt::Formatter<W>) -> fm
     }
 }
 
-/// Writes what is wrong, for a refusal about the desk, its numbers or the clock; passes others on.
-fn put_desk_refusal<W: fmt::Write>(refusal: &Refusal, f: &mut fmt::Formatter<W>) -> fmt::Result {
+/// Writes what is wrong, in words without the code, for a refusal about the desk and its numbers
+/// (K1 to K4) or the clock (C1). Any other refusal is left to `write_draft_refusal`.
+fn write_desk_refusal<W: fmt::Write>(refusal: &Refusal, f: &mut fmt::Formatter<W>) -> fmt::Result {
     match refusal {
         Refusal::UnknownDesk => f.write_str("the office has no such desk"),
         Refusal::Reused { last } => write!(
@@ -71,12 +74,13 @@ fn put_desk_refusal<W: fmt::Write>(refusal: &Refusal, f: &mut fmt::Formatter<W>)
             f,
             "the clock stands at minute {minute} from 2000 on, which is out of range"
         ),
-        _ => put_draft_refusal(refusal, f),
+        _ => write_draft_refusal(refusal, f),
     }
 }
 
-/// Writes what is wrong, for a refusal about a draft; passes others on.
-fn put_draft_refusal<W: fmt::Write>(refusal: &Refusal, f: &mut fmt::Formatter<W>) -> fmt::Result {
+/// Writes what is wrong, in words without the code, for a refusal about a draft (E1 to E6). Any
+/// other refusal is left to `write_part_refusal`.
+fn write_draft_refusal<W: fmt::Write>(refusal: &Refusal, f: &mut fmt::Formatter<W>) -> fmt::Result {
     match refusal {
         Refusal::NoDraft => f.write_str("no draft has this number"),
         Refusal::NotOwner { owner } => { write!(f, "the desk {owner} owns the draft") }
@@ -87,12 +91,13 @@ fn put_draft_refusal<W: fmt::Write>(refusal: &Refusal, f: &mut fmt::Formatter<W>
         Refusal::DraftsFull => f.write_str("there are 64 drafts"),
         Refusal::IntentsFull => f.write_str("the draft has 64 intents"),
         Refusal::NoIntent { place } => { write!(f, "the draft has no intent at place {place}") }
-        _ => put_part_refusal(refusal, f),
+        _ => write_part_refusal(refusal, f),
     }
 }
 
-/// Writes what is wrong, for a refusal about what a request names; passes others on.
-fn put_part_refusal<W: fmt::Write>(refusal: &Refusal, f: &mut fmt::Formatter<W>) -> fmt::Result {
+/// Writes what is wrong, in words without the code, for a refusal about what a request names, such
+/// as a zone or a hazard (E7 to E14). Any other refusal is left to `write_event_refusal`.
+fn write_part_refusal<W: fmt::Write>(refusal: &Refusal, f: &mut fmt::Formatter<W>) -> fmt::Result {
     match refusal {
         Refusal::UnknownZone { zone } => { write!(f, "the office has no zone {zone}") }
         Refusal::UnknownHazard => f.write_str("the desk issues no such hazard"),
@@ -114,12 +119,13 @@ fn put_part_refusal<W: fmt::Write>(refusal: &Refusal, f: &mut fmt::Formatter<W>)
         }
         Refusal::BadZoneList => f.write_str("there is no zone, one twice, or more than 600"),
         Refusal::NoProduct => f.write_str("no product has this number"),
-        _ => put_event_refusal(refusal, f),
+        _ => write_event_refusal(refusal, f),
     }
 }
 
-/// Writes what is wrong, for a refusal about an event in a product's lines; passes others on.
-fn put_event_refusal<W: fmt::Write>(refusal: &Refusal, f: &mut fmt::Formatter<W>) -> fmt::Result {
+/// Writes what is wrong, in words without the code, for a refusal about an event of a product (L2
+/// to L5, L7 and L11 to L13). Any other refusal is left to `write_intent_refusal`.
+fn write_event_refusal<W: fmt::Write>(refusal: &Refusal, f: &mut fmt::Formatter<W>) -> fmt::Result {
     match refusal {
         Refusal::NoEvent { event } => write!(f, "{event} is no open event, or none of the product"),
         Refusal::NotLive { event, zone } => { write!(f, "{event} is not live in {zone}") }
@@ -139,12 +145,16 @@ fn put_event_refusal<W: fmt::Write>(refusal: &Refusal, f: &mut fmt::Formatter<W>
             second,
         } => write!(f, "{first} and {second} would overlap in {zone}"),
         Refusal::NumberHeld { event } => write!(f, "{event} has the next number and is still open"),
-        _ => put_intent_refusal(refusal, f),
+        _ => write_intent_refusal(refusal, f),
     }
 }
 
-/// Writes what is wrong, for a refusal about an intent; passes others on.
-fn put_intent_refusal<W: fmt::Write>(refusal: &Refusal, f: &mut fmt::Formatter<W>) -> fmt::Result {
+/// Writes what is wrong, in words without the code, for a refusal about the intents of a draft (L1,
+/// L6 and L8 to L10). Any other refusal is left to `write_product_refusal`.
+fn write_intent_refusal<W: fmt::Write>(
+    refusal: &Refusal,
+    f: &mut fmt::Formatter<W>,
+) -> fmt::Result {
     match refusal {
         Refusal::EmptyDraft => f.write_str("the draft has no intent"),
         Refusal::BadPeriod { place } => write!(
@@ -163,12 +173,16 @@ fn put_intent_refusal<W: fmt::Write>(refusal: &Refusal, f: &mut fmt::Formatter<W
             f,
             "the hazard of the intent at place {place} has no flood values"
         ),
-        _ => put_product_refusal(refusal, f),
+        _ => write_product_refusal(refusal, f),
     }
 }
 
-/// Writes what is wrong, for a refusal about a product as a whole.
-fn put_product_refusal<W: fmt::Write>(refusal: &Refusal, f: &mut fmt::Formatter<W>) -> fmt::Result {
+/// Writes what is wrong, in words without the code, for a refusal about a product as a whole or the
+/// journal (L14 to L21). For any other refusal it writes nothing.
+fn write_product_refusal<W: fmt::Write>(
+    refusal: &Refusal,
+    f: &mut fmt::Formatter<W>,
+) -> fmt::Result {
     match refusal {
         Refusal::NumbersSpent { hazard } => { write!(f, "{hazard} has had 9999 events this year") }
         Refusal::NotLast { last } => write!(f, "the last product of the category is number {last}"),

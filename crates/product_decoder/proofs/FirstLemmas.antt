@@ -9,7 +9,7 @@ use Rattle.hazard_types.specs.declared.hazard.Event.{Event}
 use Rattle.hazard_types.specs.declared.line.Line.{Line}
 use Rattle.hazard_types.proofs.OrderLaws.{by_event_total, by_event_ties}
 use Rattle.event_life.specs.declared.life.Breach.{Breach}
-use Rattle.event_life.specs.Openings.{event_placed, add_event, opened_by}
+use Rattle.event_life.specs.Openings.{event_placed, add_event, events_opened_by}
 use Rattle.event_life.specs.Products.{is_new, is_routine, lawful_of}
 use Rattle.row_index.specs.declared.verdicts.Run.{Run}
 use Rattle.row_index.specs.declared.verdicts.Verdict.{Verdict}
@@ -85,10 +85,10 @@ is_opening line o = (not (is_routine line.action) && is_none o) && is_new line.a
 abbrev opened_with : Line → Option Breach → List Event → List Event
 opened_with line o events = opens (is_opening line o) line.event events
 
-one_more : (line : Line) (o : Option Breach) (rest : List Judged) → opened_by (lawful_of ((line, o) ∷ rest)) ≡ opened_with line o (opened_by (lawful_of rest))
+one_more : (line : Line) (o : Option Breach) (rest : List Judged) → events_opened_by (lawful_of ((line, o) ∷ rest)) ≡ opened_with line o (events_opened_by (lawful_of rest))
 one_more line o rest = by_test (not (is_routine line.action) && is_none o)
   where
-    by_test : (b : Bool) → opened_by (cond b (line ∷ lawful_of rest) (lawful_of rest)) ≡ opens (b && is_new line.action) line.event (opened_by (lawful_of rest))
+    by_test : (b : Bool) → events_opened_by (cond b (line ∷ lawful_of rest) (lawful_of rest)) ≡ opens (b && is_new line.action) line.event (events_opened_by (lawful_of rest))
     by_test true = refl
     by_test false = refl
 
@@ -98,11 +98,11 @@ abbrev all_opened : List Verdict → List Event → List Event
 all_opened [] events = events
 all_opened (v ∷ vs) events = opened_with v.line v.breach (all_opened vs events)
 
-firsts_told : (vs : List Verdict) (rest : List Judged) → opened_by (lawful_of (map judged_by vs ++ rest)) ≡ all_opened vs (opened_by (lawful_of rest))
+firsts_told : (vs : List Verdict) (rest : List Judged) → events_opened_by (lawful_of (map judged_by vs ++ rest)) ≡ all_opened vs (events_opened_by (lawful_of rest))
 firsts_told [] rest = refl
 firsts_told (v ∷ vs) rest = one_more v.line v.breach (map judged_by vs ++ rest) ∙ ap (opened_with v.line v.breach) (firsts_told vs rest)
 
-zone_told : (z : Place) (vs : List Verdict) (rest : List Judged) → opened_by (lawful_of (expand_at vs z ++ rest)) ≡ all_opened vs (opened_by (lawful_of rest))
+zone_told : (z : Place) (vs : List Verdict) (rest : List Judged) → events_opened_by (lawful_of (expand_at vs z ++ rest)) ≡ all_opened vs (events_opened_by (lawful_of rest))
 zone_told z [] rest = refl
 zone_told z (v ∷ vs) rest = one_more (in_zone v.line z) v.breach (expand_at vs z ++ rest) ∙ ap (opened_with v.line v.breach) (zone_told z vs rest)
 
@@ -123,25 +123,25 @@ again (v ∷ vs) events =
 
 -- one zone more
 zone_more : (z : Place) (zones : List Place) (vs : List Verdict) (rest : List Judged)
-    → opened_by (lawful_of (flat_map (expand_at vs) (z ∷ zones) ++ rest)) ≡ all_opened vs (opened_by (lawful_of (flat_map (expand_at vs) zones ++ rest)))
+    → events_opened_by (lawful_of (flat_map (expand_at vs) (z ∷ zones) ++ rest)) ≡ all_opened vs (events_opened_by (lawful_of (flat_map (expand_at vs) zones ++ rest)))
 zone_more z zones vs rest =
-    ap (λ (judged : List Judged). opened_by (lawful_of judged)) (append_assoc (expand_at vs z) (flat_map (expand_at vs) zones) rest)
+    ap (λ (judged : List Judged). events_opened_by (lawful_of judged)) (append_assoc (expand_at vs z) (flat_map (expand_at vs) zones) rest)
     ∙ zone_told z vs (flat_map (expand_at vs) zones ++ rest)
 
 -- in front of what they open, other zones add nothing
-zones_again : (zones : List Place) (vs : List Verdict) (rest : List Judged) → all_opened vs (opened_by (lawful_of (flat_map (expand_at vs) zones ++ rest))) ≡ all_opened vs (opened_by (lawful_of rest))
+zones_again : (zones : List Place) (vs : List Verdict) (rest : List Judged) → all_opened vs (events_opened_by (lawful_of (flat_map (expand_at vs) zones ++ rest))) ≡ all_opened vs (events_opened_by (lawful_of rest))
 zones_again [] vs rest = refl
 zones_again (z ∷ zones) vs rest =
-    ap (all_opened vs) (zone_more z zones vs rest) ∙ again vs (opened_by (lawful_of (flat_map (expand_at vs) zones ++ rest))) ∙ zones_again zones vs rest
+    ap (all_opened vs) (zone_more z zones vs rest) ∙ again vs (events_opened_by (lawful_of (flat_map (expand_at vs) zones ++ rest))) ∙ zones_again zones vs rest
 
 -- a run in front of others
-run_opened : (zones : List Place) (vs : List Verdict) (firsts rest : List Judged) → opened_by (lawful_of firsts) ≡ opened_by (lawful_of rest)
-    → opened_by (lawful_of (firsts_in (record { zones = zones; verdicts = vs }) ++ firsts)) ≡ opened_by (lawful_of (flat_map (expand_at vs) zones ++ rest))
+run_opened : (zones : List Place) (vs : List Verdict) (firsts rest : List Judged) → events_opened_by (lawful_of firsts) ≡ events_opened_by (lawful_of rest)
+    → events_opened_by (lawful_of (firsts_in (record { zones = zones; verdicts = vs }) ++ firsts)) ≡ events_opened_by (lawful_of (flat_map (expand_at vs) zones ++ rest))
 run_opened [] vs firsts rest h = h
 run_opened (z ∷ zones) vs firsts rest h =
     firsts_told vs firsts ∙ ap (all_opened vs) h
     ∙ sym (zones_again zones vs rest) ∙ sym (zone_more z zones vs rest)
 
-pub firsts_opened : (runs : List Run) → opened_by (lawful_of (firsts_of runs)) ≡ opened_by (lawful_of (expand runs))
+pub firsts_opened : (runs : List Run) → events_opened_by (lawful_of (firsts_of runs)) ≡ events_opened_by (lawful_of (expand runs))
 firsts_opened [] = refl
 firsts_opened (r ∷ runs) = run_opened r.zones r.verdicts (firsts_of runs) (expand runs) (firsts_opened runs)

@@ -17,7 +17,7 @@ use Rattle.hazard_types.proofs.Equality.{class_one, hazard_one}
 use Rattle.event_life.specs.declared.life.Breach.{Breach}
 use Rattle.event_life.specs.Lives.{judged_product}
 use Rattle.event_life.specs.Periods.{keeps_open}
-use Rattle.event_life.specs.Products.{Product, later_event, going_in, event_of_issue, is_new, event_of, end_of, line_of, lines_of, judged_from}
+use Rattle.event_life.specs.Products.{Product, later_event, latest_open_event, event_of_issue, is_new, event_of, end_of, line_of, lines_of, judged_from}
 use Rattle.product_decoder.specs.Runs.{Taken}
 use Rattle.product_decoder.specs.declared.types.Decoded.{Decoded}
 use Rattle.product_decoder.specs.declared.types.ZonePair.{ZonePair}
@@ -65,8 +65,8 @@ module _ (h : Hazard) (n : ℕ) where
 
 event_number : (rows : List Row) (t : ℕ) (vtec : Vtec) → ((event_of rows t vtec).hazard ≡ vtec.hazard) × ((event_of rows t vtec).etn ≡ vtec.etn)
 event_number rows t vtec =
-    by_new vtec.hazard vtec.etn (is_new vtec.action) (event_of_issue t vtec) (unwrap_or (going_in rows vtec.hazard vtec.etn t) (event_of_issue t vtec)) (refl, refl)
-    (or_of vtec.hazard vtec.etn (going_in rows vtec.hazard vtec.etn t) (event_of_issue t vtec) (going_of vtec.hazard vtec.etn t rows None tt) (refl, refl))
+    by_new vtec.hazard vtec.etn (is_new vtec.action) (event_of_issue t vtec) (unwrap_or (latest_open_event rows vtec.hazard vtec.etn t) (event_of_issue t vtec)) (refl, refl)
+    (or_of vtec.hazard vtec.etn (latest_open_event rows vtec.hazard vtec.etn t) (event_of_issue t vtec) (going_of vtec.hazard vtec.etn t rows None tt) (refl, refl))
 
 end_back : (end : Option ℕ) → minute_of (end_of end) ≡ end
 end_back None = refl

@@ -10,7 +10,7 @@ use Rattle.hazard_types.specs.declared.line.Line.{Line}
 use Rattle.hazard_types.specs.declared.line.Row.{Row}
 use Rattle.event_life.specs.declared.life.Breach.{Breach}
 use Rattle.event_life.specs.Lives.{judged_product, steps_of, track_from}
-use Rattle.event_life.specs.Openings.{opened_by, opened_from, gaps_from}
+use Rattle.event_life.specs.Openings.{events_opened_by, opened_from, gaps_from}
 use Rattle.event_life.specs.Products.{Product, lawful_of, put_all, rows_after, rows_with, rows_of}
 use Rattle.product_decoder.specs.Runs.{Taken}
 use Rattle.product_decoder.specs.declared.types.Found.{Found}
@@ -45,8 +45,8 @@ module _ (office : List ℕ) (class : Class) where
   opened_told : (rows : List Row) (taken : List Taken) → AreJudged office class rows taken → opened_in taken ≡ opened_from rows (products_taken office class taken)
   opened_told rows [] h = refl
   opened_told rows (t ∷ taken) h =
-      ap (λ (judged : List (Line × Option Breach)). opened_by (lawful_of judged) ++ opened_in taken) h.0
-      ∙ ap (λ (events : List Event). opened_by (lawful_of (judged_product rows (product_taken office class t))) ++ events) (opened_told (rows_with rows (product_taken office class t)) taken h.1)
+      ap (λ (judged : List (Line × Option Breach)). events_opened_by (lawful_of judged) ++ opened_in taken) h.0
+      ∙ ap (λ (events : List Event). events_opened_by (lawful_of (judged_product rows (product_taken office class t))) ++ events) (opened_told (rows_with rows (product_taken office class t)) taken h.1)
 
   judged_push : (rows : List Row) (taken : List Taken) (t : Taken) → AreJudged office class rows taken →
       t.judged ≡ judged_product (fold rows_with rows (products_taken office class taken)) (product_taken office class t) → AreJudged office class rows (taken ++ t ∷ [])

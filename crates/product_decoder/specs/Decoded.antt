@@ -3,7 +3,7 @@ use Rattle.std.specs.Prelude.{◌≡◌, ℕ, List, map, Result, Ok}
 use Rattle.hazard_types.specs.Given.{◌>>=◌}
 use Rattle.hazard_types.specs.ZoneLines.{ZoneLine}
 use Rattle.product_frame.specs.Frame.{FrameOf}
-use Rattle.product_frame.specs.Frames.{frame_of}
+use Rattle.product_frame.specs.Frames.{read_first_frame}
 use Rattle.product_frame.specs.ZoneLinesOf.{zone_lines_of}
 use Rattle.product_frame.specs.declared.frame.Frame.{Frame}
 use Rattle.product_frame.specs.declared.frame.FrameFault.{FrameFault}
@@ -23,4 +23,4 @@ IsDecoded bytes d = (f : Frame) × FrameOf bytes f × (d ≡ decoded_of f)
 
 -- what the text says, or its first fault
 abbrev pub decode : List ℕ → Result Decoded FrameFault
-decode bytes = frame_of bytes >>= λ f. Ok (decoded_of f)
+decode bytes = read_first_frame bytes >>= λ f. Ok (decoded_of f)

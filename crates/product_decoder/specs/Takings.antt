@@ -14,7 +14,7 @@ use Rattle.hazard_types.specs.declared.period.End.{End}
 use Rattle.hazard_types.specs.declared.period.End.TheVariants.{At, Ufn}
 use Rattle.event_life.specs.declared.life.Breach.{Breach}
 use Rattle.event_life.specs.Lives.{judged_product, steps_of}
-use Rattle.event_life.specs.Openings.{opened_by}
+use Rattle.event_life.specs.Openings.{events_opened_by}
 use Rattle.event_life.specs.Products.{Product, event_of, end_of, lawful_of, put_all, rows_with, rows_of}
 use Rattle.product_decoder.specs.declared.taken.Known.{Known}
 use Rattle.product_decoder.specs.Runs.{Taken}
@@ -97,4 +97,4 @@ breaches_in count (t ∷ taken) = found_in count t.judged ++ breaches_in (count 
 
 abbrev pub opened_in : List Taken → List Event
 opened_in [] = []
-opened_in (t ∷ taken) = opened_by (lawful_of t.judged) ++ opened_in taken
+opened_in (t ∷ taken) = events_opened_by (lawful_of t.judged) ++ opened_in taken

@@ -40,7 +40,7 @@ impl Feed {
         }
     }
 
-    /// Adds a piece after those before. The end must not be marked.
+    /// Adds a piece after the pieces before. `end` must not have been called.
     ///
     /// # Errors
     ///
@@ -83,7 +83,7 @@ impl Feed {
         }
     }
 
-    /// Returns how many bytes are kept.
+    /// Returns how many bytes are kept: those of products that were not returned yet.
     pub fn held(&self) -> usize
         ensures { result ≡ length self.now.rest }
     {
@@ -91,7 +91,8 @@ impl Feed {
     }
 }
 
-/// Adds the next product to `out`, if there is one, and returns whether there is.
+/// Appends to `out` the next product that `feed` can return, and returns whether there was one.
+/// `Err` is out of memory; no product is lost.
 fn take_one(alloc: Global, feed: &mut Feed, out: &mut List<Text>) -> Result<bool, Oom>
     ensures ended { feed.new.ended ≡ feed.old.ended }
     ensures going { OnOk result (feed.old.ended ≡ false
@@ -111,7 +112,8 @@ fn take_one(alloc: Global, feed: &mut Feed, out: &mut List<Text>) -> Result<bool
     }
 }
 
-/// Adds the products that are finished to `out`, or all that are left if the end is marked.
+/// Appends to `out`, in the order of the stream, the products that are finished, or all that are
+/// left if the end of `feed` is marked. `Err` is out of memory.
 fn take_each(alloc: Global, feed: &mut Feed, out: &mut List<Text>) -> Result<(), Oom>
     ensures ended { feed.new.ended ≡ feed.old.ended }
     ensures going { OnOk result (feed.old.ended ≡ false
@@ -127,7 +129,8 @@ fn take_each(alloc: Global, feed: &mut Feed, out: &mut List<Text>) -> Result<(),
     Ok(())
 }
 
-/// Returns the products of a stream that comes in these pieces, however it is cut.
+/// Returns the products of the stream that the pieces make one after another, in its order,
+/// wherever it is cut into pieces.
 ///
 /// # Errors
 ///
@@ -146,7 +149,9 @@ pub fn products_of(alloc: Global, pieces: &[Text]) -> Result<List<Text>, Oom>
     Ok(out)
 }
 
-/// The products of a text, line by line, are those that it is split into.
+/// For any bytes two ways of cutting them into products give the same ones. In one they are split
+/// at the spans that `product_frame` finds; in the other they are gone through line by line, and
+/// each heading line starts a product.
 #[tactic(auto, using(crate::proofs::Dividing::products_told))]
 pub fn lines_tell_the_products()
     ensures { (bytes : Seq ℕ) → texts_of bytes ≡ products_in bytes }

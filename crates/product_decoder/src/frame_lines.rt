@@ -23,7 +23,9 @@ pub struct EventPair {
     pub flood: Option<Flood>,
 }
 
-/// Returns a pair with its event. `known` is an earlier P-VTEC line of the product with its event.
+/// Returns the P-VTEC line and the H-VTEC values of `pair` with the event that the line names,
+/// given `rows`, those just before the product, and its issue minute `t`. `known` is an earlier
+/// P-VTEC line of the product with its event, or `None`; it only saves a look-up.
 fn event_pair(rows: &RowIndex, t: Minute, known: &Option<Known>, pair: &Pair) -> EventPair
     requires { IsKnown rows.now t known.now }
     ensures { result ≡ event_pair rows.now t pair.now }
@@ -35,7 +37,8 @@ fn event_pair(rows: &RowIndex, t: Minute, known: &Option<Known>, pair: &Pair) ->
     }
 }
 
-/// Returns the pairs of the office and class, each with its event.
+/// Returns those of the pairs whose P-VTEC line is of the office and class, in their order, each
+/// with its event. `rows` are the rows just before the product, and `t` is its issue minute.
 fn event_pairs(
     alloc: Global,
     office: &[u8; 4],
@@ -60,7 +63,7 @@ fn event_pairs(
     Ok(said)
 }
 
-/// Converts a pair to the line of one zone.
+/// Returns the line that a pair says of one zone. An end of zeros becomes until further notice.
 fn line_in(zone: &Zone, said: &EventPair) -> Line
     ensures { result ≡ line_in zone.now said.now }
 {
@@ -74,7 +77,7 @@ fn line_in(zone: &Zone, said: &EventPair) -> Line
     }
 }
 
-/// Converts pairs to the lines of one zone.
+/// Returns the line that each pair says of one zone, in the order of the pairs.
 fn lines_at(alloc: Global, zone: &Zone, said: &[EventPair]) -> Result<List<Line>, Oom>
     ensures { IfOk result (λ lines. lines ≡ map (line_in zone.now) said.now) }
 {
@@ -85,8 +88,9 @@ fn lines_at(alloc: Global, zone: &Zone, said: &[EventPair]) -> Result<List<Line>
     Ok(List::from_vec(lines))
 }
 
-/// Adds zones and the lines of pairs as a part, if there are zones.
-fn put_part<'a>(
+/// Appends to `parts` a part with `zones` and the lines that the pairs `said` say of the first of
+/// them; does nothing if there are no zones. `Err` is out of memory.
+fn add_part<'a>(
     alloc: Global,
     parts: &mut Vec<Part<'a>>,
     zones: &'a [Zone],
@@ -105,7 +109,9 @@ fn put_part<'a>(
     }
 }
 
-/// Returns the lines of segments as parts, one for each segment that has zones.
+/// Returns the lines of an office and class as parts, one for each segment that has zones, in the
+/// order of the segments: its zones, and its lines for the first of them. `rows` are the rows just
+/// before the product, and `t` is its issue minute.
 fn parts_of<'a>(
     alloc: Global,
     office: &[u8; 4],
@@ -121,12 +127,14 @@ fn parts_of<'a>(
     for segment in segments {
         let pairs = segment.pairs.as_slice();
         let said = event_pairs(alloc, office, class, rows, t, pairs)?;
-        put_part(alloc, &mut parts, segment.zones.as_slice(), said.as_slice())?;
+        add_part(alloc, &mut parts, segment.zones.as_slice(), said.as_slice())?;
     }
     Ok(List::from_vec(parts))
 }
 
-/// Returns the lines of an office and class as parts, by the frame of their product.
+/// Returns the lines of an office and class that a product's frame has, as parts, one for each
+/// segment that has zones: its zones, and its lines for the first of them. `rows` are the rows just
+/// before the product.
 #[tactic(auto, using(crate::proofs::FrameLemmas::frame_told))]
 fn parts_by_frame<'a>(
     alloc: Global,
@@ -148,8 +156,9 @@ fn parts_by_frame<'a>(
     )
 }
 
-/// Returns the lines of an office and class of a product, judged, as runs in the order of the text.
-/// `rows` are the rows just before the product.
+/// Returns the lines of an office and class that a product's frame has, judged by `rows`, those
+/// just before the product. They come as runs in the order of the text, where no two lines of a run
+/// have the same event.
 ///
 /// # Errors
 ///

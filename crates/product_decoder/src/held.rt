@@ -31,7 +31,7 @@ pub enum Scan {
     Line(usize),
 }
 
-/// Whether the first line between two offsets is a heading line.
+/// Whether the bytes from offset `from` up to `to` start with a heading line.
 fn is_heading_at(bytes: &[u8], from: usize, to: usize) -> bool
     requires order { from ≤ to }
     requires within { to ≤ length bytes.now }
@@ -40,7 +40,7 @@ fn is_heading_at(bytes: &[u8], from: usize, to: usize) -> bool
     is_heading(&bytes[from..to])
 }
 
-/// Whether the first line from an offset on is a heading line.
+/// Whether the bytes from offset `from` on start with a heading line.
 fn is_heading_from(bytes: &[u8], from: usize) -> bool
     requires { from ≤ length bytes.now }
     ensures { result ≡ has_heading (drop from bytes.now) }
@@ -48,8 +48,9 @@ fn is_heading_from(bytes: &[u8], from: usize) -> bool
     is_heading(&bytes[from..])
 }
 
-/// Returns the first heading line among the whole lines from `from` on. No line ends between `from`
-/// and `looked`.
+/// Returns the first heading line among the whole lines from offset `from`, where a line starts,
+/// on; if there is none, the start of the line that is not whole. No line may end between `from`
+/// and `looked`, so these bytes are not searched for a line end.
 fn find_heading(bytes: &[u8], from: usize, looked: usize) -> Scan
     requires order { from ≤ looked }
     requires within { looked ≤ length bytes.now }
@@ -69,7 +70,7 @@ fn find_heading(bytes: &[u8], from: usize, looked: usize) -> Scan
 }
 
 impl Held {
-    /// Empty, without capacity.
+    /// Returns a `Held` without bytes and without capacity.
     pub fn new(alloc: Global) -> Self
         ensures holds { HeldIs result }
         ensures rest { rest_of result ≡ [] }
@@ -83,7 +84,7 @@ impl Held {
         }
     }
 
-    /// Returns how many bytes count.
+    /// Returns how many bytes count: those that were appended and neither returned nor passed over.
     pub fn len(&self) -> usize
         requires { HeldIs self.now }
         ensures { result ≡ length (rest_of self.now) }
@@ -91,7 +92,8 @@ impl Held {
         self.bytes.len() - self.from
     }
 
-    /// Drops the bytes that do not count.
+    /// Frees the bytes that do not count: those before `from`, which were returned or passed over.
+    /// `Err` is out of memory, and nothing changes.
     fn shrink(&mut self, alloc: Global) -> Result<(), Oom>
         requires { HeldIs self.old }
         ensures holds { HeldIs self.new }
@@ -116,8 +118,12 @@ impl Held {
         Ok(())
     }
 
-    /// Appends a piece, after dropping the bytes that do not count if they are the greater part. On
-    /// `Oom` the bytes that count are as before.
+    /// Appends a piece of the stream. If more than half of the bytes were returned or passed over,
+    /// these are freed first. On `Oom` the bytes that count are as before.
+    ///
+    /// # Errors
+    ///
+    /// Out of memory.
     pub fn push(&mut self, alloc: Global, piece: &[u8]) -> Result<(), Oom>
         requires { HeldIs self.old }
         ensures holds { HeldIs self.new }
@@ -130,8 +136,9 @@ impl Held {
         self.add(piece)
     }
 
-    /// Passes over whole lines before the first heading line, or over all whole lines if there is
-    /// none.
+    /// Passes over the whole lines before the first heading line, or over all whole lines if there
+    /// is none. It does nothing if the bytes that count start with a heading line that was found
+    /// before; `headed` then tells whether they start with one.
     fn skip_to_heading(&mut self)
         requires { HeldIs self.old }
         ensures holds { HeldIs self.new }
@@ -156,7 +163,9 @@ impl Held {
         }
     }
 
-    /// Returns the whole lines from the heading line up to the next one, if there is one.
+    /// Returns the product at the start of the bytes that count, up to the next heading line, and
+    /// passes over it; `None` if no next heading line is whole yet. The bytes that count must start
+    /// with a heading line. `Err` is out of memory, and they are as before.
     fn advance(&mut self, alloc: Global) -> Result<Option<Text>, Oom>
         requires holds { HeldIs self.old }
         requires headed { self.old.headed ≡ true }
@@ -182,7 +191,13 @@ impl Held {
         }
     }
 
-    /// Returns the next product, if the heading line after it is whole.
+    /// Returns the next product, from its heading line up to the next one, and passes over it;
+    /// `None` if there is no heading line yet, or none after it that is whole. What comes before
+    /// the first heading line is passed over.
+    ///
+    /// # Errors
+    ///
+    /// Out of memory.
     pub fn take_whole(&mut self, alloc: Global) -> Result<Option<Text>, Oom>
         requires { HeldIs self.old }
         ensures holds { HeldIs self.new }
@@ -197,7 +212,8 @@ impl Held {
         self.advance(alloc)
     }
 
-    /// Returns all bytes that count, after which none do.
+    /// Returns all bytes that count, never `None`, after which none do. `Err` is out of memory, and
+    /// they are as before.
     fn give_all(&mut self, alloc: Global) -> Result<Option<Text>, Oom>
         requires { HeldIs self.old }
         ensures holds { HeldIs self.new }
@@ -210,7 +226,7 @@ impl Held {
         Ok(Some(text))
     }
 
-    /// Passes over all bytes.
+    /// Passes over all bytes, so that none count.
     fn clear(&mut self)
         requires { HeldIs self.old }
         ensures holds { HeldIs self.new }
@@ -222,7 +238,8 @@ impl Held {
         self.headed = false;
     }
 
-    /// Returns the bytes up to the last line, which starts the next product.
+    /// Returns the bytes that count up to the last line, which starts at `seen`, never `None`. From
+    /// then on only the last line counts. `Err` is out of memory, and nothing changes.
     fn take_until_last_line(&mut self, alloc: Global) -> Result<Option<Text>, Oom>
         requires holds { HeldIs self.old }
         ensures holds { HeldIs self.new }
@@ -237,8 +254,10 @@ impl Held {
         Ok(Some(text))
     }
 
-    /// Returns the last product of a stream that has ended, or the one before it if the last line
-    /// is a heading line.
+    /// Returns the bytes that count of a stream that has ended, or, if its last line, which has no
+    /// line end, is a heading line, those up to this line; never `None`. They must start with a
+    /// heading line, and no other may follow among the whole lines. `Err` is out of memory, and
+    /// they are as before.
     fn last_product(&mut self, alloc: Global) -> Result<Option<Text>, Oom>
         requires holds { HeldIs self.old }
         requires headed { self.old.headed ≡ true }
@@ -253,8 +272,9 @@ impl Held {
         self.give_all(alloc)
     }
 
-    /// Returns the last line of a stream that has ended if it is a heading line, and passes over it
-    /// otherwise.
+    /// Returns the last line of a stream that has ended if it is a heading line, else `None`, and
+    /// passes over it. The bytes that count must be this line, without a line end. `Err` is out of
+    /// memory, and they are as before.
     fn last_line(&mut self, alloc: Global) -> Result<Option<Text>, Oom>
         requires holds { HeldIs self.old }
         requires quiet { IsQuiet (rest_of self.old) }
@@ -269,8 +289,9 @@ impl Held {
         Ok(None)
     }
 
-    /// Returns the next product of a stream that has ended, if a heading line starts the bytes that
-    /// count.
+    /// Returns the next product of a stream that has ended, and passes over it; never `None`. The
+    /// bytes that count must start with a heading line. `Err` is out of memory, and they are as
+    /// before.
     fn last_headed(&mut self, alloc: Global) -> Result<Option<Text>, Oom>
         requires holds { HeldIs self.old }
         requires headed { self.old.headed ≡ true }
@@ -285,7 +306,12 @@ impl Held {
         self.last_product(alloc)
     }
 
-    /// Returns the next product of a stream that has ended.
+    /// Returns the next product of a stream that has ended, and passes over it; `None` once no
+    /// heading line is left. The last line counts even if it has no line end.
+    ///
+    /// # Errors
+    ///
+    /// Out of memory.
     pub fn take_last(&mut self, alloc: Global) -> Result<Option<Text>, Oom>
         requires { HeldIs self.old }
         ensures holds { HeldIs self.new }

@@ -18,7 +18,8 @@ fn opens(action: &Action) -> bool
     matches!(action, Action::New | Action::Exa | Action::Exb)
 }
 
-/// Returns what a line opens, in a product with the issue minute `t`.
+/// Returns the event, zone and period that a NEW, EXA or EXB line opens, in a product with the
+/// issue minute `t`. The period begins at `t` if the line has a begin of zeros.
 fn opening_of(t: Minute, line: &Line) -> Opening
     ensures { result ≡ opening_of t line.now }
 {
@@ -30,8 +31,9 @@ fn opening_of(t: Minute, line: &Line) -> Opening
     }
 }
 
-/// Adds what a line opens, if it opens anything.
-fn put_opening(out: &mut List<Opening>, t: Minute, line: &Line) -> Result<(), Oom>
+/// Appends to `out` what a line opens, or nothing if its action is not NEW, EXA or EXB. `t` is the
+/// issue minute of the product, and `Err` is out of memory.
+fn add_opening(out: &mut List<Opening>, t: Minute, line: &Line) -> Result<(), Oom>
     ensures { OnOk result (out.new ≡ out.old ++ openings_in t (line.now ∷ [])) }
 {
     if opens(&line.action) {
@@ -40,7 +42,9 @@ fn put_opening(out: &mut List<Opening>, t: Minute, line: &Line) -> Result<(), Oo
     Ok(())
 }
 
-/// Returns what the lawful lines of a product open.
+/// Returns what the lawful NEW, EXA and EXB lines of a product with the issue minute `t` open, in
+/// the order of `judged`. This has each line with its first breach, or `None` if it is lawful or
+/// routine.
 fn openings_in(
     alloc: Global,
     t: Minute,
@@ -51,13 +55,14 @@ fn openings_in(
     let mut out = List::new(alloc);
     for found in judged {
         if leaves_row(found) {
-            put_opening(&mut out, t, &found.0)?;
+            add_opening(&mut out, t, &found.0)?;
         }
     }
     Ok(out)
 }
 
-/// Returns the lawful lines of a product.
+/// Returns the lawful lines of a product that are not routine, in the order of `judged`. This has
+/// each line with its first breach, or `None` if it is lawful or routine.
 fn lawful_in(alloc: Global, judged: &[(Line, Option<Breach>)]) -> Result<List<Line>, Oom>
     ensures { IfOk result (λ lines. lines ≡ lawful_of judged.now) }
 {
@@ -70,7 +75,8 @@ fn lawful_in(alloc: Global, judged: &[(Line, Option<Breach>)]) -> Result<List<Li
     Ok(out)
 }
 
-/// Returns what the last of these products opened.
+/// Returns what the lawful NEW, EXA and EXB lines of the last of these products opened, in the
+/// order of the text; empty if there are no products.
 fn last_openings(alloc: Global, taken: &[Taken]) -> Result<List<Opening>, Oom>
     ensures { IfOk result (λ openings. openings ≡ openings_taken [] taken.now) }
 {
@@ -83,7 +89,8 @@ fn last_openings(alloc: Global, taken: &[Taken]) -> Result<List<Opening>, Oom>
     }
 }
 
-/// Returns the lawful lines of the last of these products.
+/// Returns the lawful lines of the last of these products that are not routine, in the order of the
+/// text; empty if there are no products.
 fn last_lawful(alloc: Global, taken: &[Taken]) -> Result<List<Line>, Oom>
     ensures { IfOk result (λ lines. lines ≡ lawful_taken [] taken.now) }
 {

@@ -13,8 +13,9 @@ use hazard_types::{List, Oom, Or, Zone};
 use product_frame::{FrameFault, FrameSegment, Pair, read_frame};
 use std::alloc::Global;
 
-/// Adds what the pairs say of one zone.
-fn put_zone(out: &mut List<ZonePair>, zone: &Zone, pairs: &[Pair]) -> Result<(), Oom>
+/// Appends to `out` what each of the pairs (a P-VTEC line with its H-VTEC values) says of the zone,
+/// in the order of the pairs. `Err` is out of memory.
+fn add_zone(out: &mut List<ZonePair>, zone: &Zone, pairs: &[Pair]) -> Result<(), Oom>
     ensures { OnOk result (out.new ≡ out.old ++ map pair_of (lines_of_zone zone.now pairs.now)) }
 {
     for pair in pairs {
@@ -27,28 +28,31 @@ fn put_zone(out: &mut List<ZonePair>, zone: &Zone, pairs: &[Pair]) -> Result<(),
     Ok(())
 }
 
-/// Adds what the pairs say of each zone, zone by zone.
-fn put_zones(out: &mut List<ZonePair>, zones: &[Zone], pairs: &[Pair]) -> Result<(), Oom>
+/// Appends to `out` what each of the pairs (a P-VTEC line with its H-VTEC values) says of each
+/// zone: for the first zone all pairs in their order, then for the next. `Err` is out of memory.
+fn add_zones(out: &mut List<ZonePair>, zones: &[Zone], pairs: &[Pair]) -> Result<(), Oom>
     ensures { OnOk result (out.new ≡ out.old ++ map pair_of (lines_of_zones zones.now pairs.now)) }
 {
     for zone in zones {
-        put_zone(out, zone, pairs)?;
+        add_zone(out, zone, pairs)?;
     }
     Ok(())
 }
 
-/// Returns what segments say of their zones.
+/// Returns what the P-VTEC lines of segments say of the zones: by segment, then zone, then line,
+/// each in the order of the text.
 fn pairs_of(alloc: Global, segments: &List<FrameSegment>) -> Result<List<ZonePair>, Oom>
     ensures { IfOk result (λ pairs. pairs ≡ map pair_of (lines_of_segments segments.now)) }
 {
     let mut out = List::new(alloc);
     for segment in segments.as_slice() {
-        put_zones(&mut out, segment.zones.as_slice(), segment.pairs.as_slice())?;
+        add_zones(&mut out, segment.zones.as_slice(), segment.pairs.as_slice())?;
     }
     Ok(out)
 }
 
-/// Returns what the first product of a text says. What comes before its heading line is skipped.
+/// Returns what the first product of a text says: its identifier, its issue minute, and each P-VTEC
+/// line in each zone of its segment. What comes before its heading line is skipped.
 ///
 /// # Errors
 ///

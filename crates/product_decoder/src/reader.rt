@@ -64,7 +64,9 @@ impl Reader {
         }
     }
 
-    /// Takes the rows after the products out of the reader; they are made again if it has none.
+    /// Returns the rows that the products taken so far leave, and takes them out of the reader. If
+    /// it has none, after a call that ran out of memory, they are made again from the products.
+    /// `Err` is out of memory.
     fn rows_before(&mut self, alloc: Global) -> Result<RowIndex, Oom>
         ensures unchanged { self.new ≡ self.old }
         ensures rows { IfOk result (λ rows. rows ≡ rows_of self.old.products) }
@@ -75,7 +77,9 @@ impl Reader {
         }
     }
 
-    /// Takes a product whose lines were judged as these runs, by the rows before it.
+    /// Adds a product with this issue minute to those taken, and keeps the rows after it. `rows`
+    /// are the rows before it, and `runs` its lines of the office and class, judged by them. `Err`
+    /// is out of memory, and the products taken are as before.
     fn keep(
         &mut self,
         alloc: Global,
@@ -102,7 +106,8 @@ impl Reader {
         Ok(())
     }
 
-    /// Takes a product, after those before. Lines of another office or class are passed over.
+    /// Adds a product to those taken, which it follows: its lines are judged by the rows that they
+    /// left, and change these. Lines of another office or class are passed over.
     ///
     /// # Errors
     ///
@@ -120,8 +125,9 @@ impl Reader {
         self.keep(alloc, rows, d.issue, runs)
     }
 
-    /// Takes a product by its frame, after those before. Lines of another office or class are
-    /// passed over.
+    /// Adds a product, given by its frame, to those taken, which it follows: its lines are judged
+    /// by the rows that they left, and change these. Lines of another office or class are passed
+    /// over.
     ///
     /// # Errors
     ///
@@ -155,7 +161,7 @@ impl Reader {
     }
 
     /// Returns the life of each row, by event, then zone: the action and issue minute of each
-    /// lawful line, in the order of the products.
+    /// lawful line other than ROU of the event in the zone, in the order of the products.
     ///
     /// # Errors
     ///
@@ -167,8 +173,9 @@ impl Reader {
         tracks_in(alloc, self.taken.as_slice())
     }
 
-    /// Returns the lives of each event by themselves, by event; one after another they are what
-    /// `lives` returns.
+    /// Returns, in the order of the events, the lives of each event in its zones, by zone. A life
+    /// has the action and issue minute of each lawful line other than ROU of the event in the zone,
+    /// in the order of the products.
     ///
     /// # Errors
     ///
@@ -196,8 +203,8 @@ impl Reader {
         breaches_in(alloc, self.taken.as_slice())
     }
 
-    /// Returns the gaps in the numbers of each hazard and year, in the order in which the events
-    /// were opened.
+    /// Returns the events that were opened with a number other than the next one of their hazard
+    /// and year, each with both numbers, in the order in which they were opened.
     ///
     /// # Errors
     ///

@@ -43,7 +43,8 @@ fn any_breach(runs: &[Run]) -> bool
 }
 
 impl Taken {
-    /// Returns the product whose lines are these runs.
+    /// Returns what is kept of a product with this issue minute: `runs`, its lines of the office
+    /// and class with their breaches. No two lines of a run may have the same event.
     pub fn new(issue: Minute, runs: List<Run>) -> Self
         requires { AreApart runs }
         ensures issue { result.issue ≡ issue }
@@ -59,8 +60,8 @@ impl Taken {
         self.issue
     }
 
-    /// Returns the lines of the office and class as runs. No two lines of a run have the same
-    /// event.
+    /// Returns the lines of the office and class with their breaches, as runs in the order of the
+    /// text. No two lines of a run have the same event.
     pub fn runs(&self) -> &[Run]
         ensures judged { expand result.now ≡ self.now.judged }
         ensures apart { AreApart result.now }
@@ -68,15 +69,19 @@ impl Taken {
         self.runs.as_slice()
     }
 
-    /// Whether a line is in breach.
+    /// Whether one of the product's lines of the office and class is in breach.
     pub fn has_breach(&self) -> bool
         ensures { result ≡ list_any in_breach self.now.judged }
     {
         any_breach(self.runs.as_slice())
     }
 
-    /// Returns the lines of the office and class, each with its first breach, or `None` if it is
-    /// lawful or routine.
+    /// Returns the lines of the office and class in the order of the text, each with its first
+    /// breach, or `None` if it is lawful or routine.
+    ///
+    /// # Errors
+    ///
+    /// Out of memory.
     pub fn judged(&self, alloc: Global) -> Result<List<(Line, Option<Breach>)>, Oom>
         ensures { IfOk result (λ judged. judged ≡ self.now.judged) }
     {
@@ -112,15 +117,17 @@ pub struct Known {
     pub event: Event,
 }
 
-/// Whether two P-VTEC lines of a product name the same event.
+/// Whether two P-VTEC lines of one product have the same number, action and hazard, so that they
+/// name the same event.
 fn same_named(a: &Vtec, b: &Vtec) -> bool
     ensures { result ≡ same_named a.now b.now }
 {
     a.etn == b.etn && a.action == b.action && a.hazard == b.hazard
 }
 
-/// Returns the event of a P-VTEC line. `known` is an earlier line of the product with its event,
-/// which mostly names the same.
+/// Returns the event that a P-VTEC line names, given `rows`, those just before its product, and the
+/// product's issue minute `t`. `known` is an earlier P-VTEC line of the product with its event, or
+/// `None`; if it has the same number, action and hazard, its event is returned without a look-up.
 pub fn event_of(rows: &RowIndex, t: Minute, known: &Option<Known>, vtec: &Vtec) -> Event
     requires { IsKnown rows.now t known.now }
     ensures { result ≡ event_of rows.now t vtec.now }
@@ -137,7 +144,8 @@ pub fn event_of(rows: &RowIndex, t: Minute, known: &Option<Known>, vtec: &Vtec) 
     }
 }
 
-/// Returns the end that a text prints: zeros (`None`) are until further notice.
+/// Returns the end of a P-VTEC line, where `None`, which a text prints as zeros, is until further
+/// notice.
 ///
 /// Source: NWS Instruction 10-1703, P-VTEC event ending date and time.
 pub fn end_of(end: &Option<Minute>) -> End
@@ -149,7 +157,8 @@ pub fn end_of(end: &Option<Minute>) -> End
     }
 }
 
-/// Converts a line of a text, given its event.
+/// Returns the line of `event` that `pair`, a P-VTEC line in one zone with its H-VTEC values, says.
+/// An end of zeros becomes until further notice.
 fn line_of_event(event: &Event, pair: &ZonePair) -> Line
     ensures { result ≡ line_of_event event.now (zone_line_of_pair pair.now) }
 {
@@ -163,8 +172,9 @@ fn line_of_event(event: &Event, pair: &ZonePair) -> Line
     }
 }
 
-/// Converts a line of a text and finds its event. `known` is an earlier line of the product with
-/// its event.
+/// Returns the line that `pair`, a P-VTEC line in one zone, says, with the event that it names,
+/// given `rows`, those just before its product, and the product's issue minute `t`. `known` is an
+/// earlier P-VTEC line of the product with its event, or `None`; it only saves a look-up.
 fn line_of(rows: &RowIndex, t: Minute, known: &Option<Known>, pair: &ZonePair) -> Line
     requires { IsKnown rows.now t known.now }
     ensures { result ≡ line_of rows.now t (zone_line_of_pair pair.now) }
@@ -173,7 +183,8 @@ fn line_of(rows: &RowIndex, t: Minute, known: &Option<Known>, pair: &ZonePair) -
     line_of_event(&event, pair)
 }
 
-/// Returns the lines of an office and class, with their events.
+/// Returns the lines of an office and class that the pairs say, in their order, each with its
+/// event. `rows` are the rows just before the product, and `t` is its issue minute.
 fn lines_by(
     alloc: Global,
     office: &[u8; 4],
@@ -199,8 +210,13 @@ fn lines_by(
     Ok(lines)
 }
 
-/// Returns the lines of an office and class of a product, judged, as runs. `rows` are the rows just
-/// before the product.
+/// Returns the lines of an office and class that product `d` has, judged by `rows`, those just
+/// before the product. They come as runs in the order of the text, where no two lines of a run have
+/// the same event.
+///
+/// # Errors
+///
+/// Out of memory.
 pub fn judged_lines(
     alloc: Global,
     office: &[u8; 4],
@@ -217,7 +233,11 @@ pub fn judged_lines(
     rows.judge_lines(alloc, d.issue, lines.as_slice())
 }
 
-/// Returns the rows that products leave, one after another.
+/// Returns the rows that products leave, taken one after another in their order, from no rows on.
+///
+/// # Errors
+///
+/// Out of memory.
 pub fn rows_taken(alloc: Global, taken: &[Taken]) -> Result<RowIndex, Oom>
     ensures { IfOk result (λ rows. rows ≡ rows_taken taken.now) }
 {

@@ -22,8 +22,9 @@ use std::marker::Model;
 /// The steps of each event, by event.
 type Steps = BTreeMap<EventKey, ZoneSteps>;
 
-/// Adds the steps of a line in `zones` to those of its event.
-fn put_line(
+/// Adds the step of a line, its action and the issue minute of its product, in each of `zones` to
+/// the steps of its event. `Err` is out of memory.
+fn add_line(
     alloc: Global,
     steps: &mut Steps,
     issue: &Minute,
@@ -42,8 +43,10 @@ fn put_line(
     known.add(alloc, issue, &line.action, zones)
 }
 
-/// Adds the steps of a line in `zones`, if it is lawful.
-fn put_verdict(
+/// Adds the step of a judged line, its action and the issue minute of its product, in each of
+/// `zones` to the steps of its event; does nothing if the line is in breach or routine. `Err` is
+/// out of memory.
+fn add_verdict(
     alloc: Global,
     steps: &mut Steps,
     issue: &Minute,
@@ -58,10 +61,12 @@ fn put_verdict(
     if !verdict.leaves_row() {
         return Ok(());
     }
-    put_line(alloc, steps, issue, &verdict.line, zones)
+    add_line(alloc, steps, issue, &verdict.line, zones)
 }
 
-/// Adds the steps of the lawful lines of a run, line by line, since they are of different events.
+/// Adds to `steps` the steps of those lines of a run that are lawful and not routine, in each zone
+/// of the run. `issue` is the issue minute of the product; the lines of the run must be of
+/// different events. `Err` is out of memory.
 fn add_run(alloc: Global, steps: &mut Steps, issue: &Minute, run: &Run) -> Result<(), Oom>
     requires apart { HaveOwnEvents (map (λ v. v.line) run.now.verdicts) }
     requires ascending { AreAscending steps.old.entries }
@@ -71,12 +76,13 @@ fn add_run(alloc: Global, steps: &mut Steps, issue: &Minute, run: &Run) -> Resul
 {
     let zones = run.zones.as_slice();
     for verdict in run.verdicts.as_slice() {
-        put_verdict(alloc, steps, issue, verdict, zones)?;
+        add_verdict(alloc, steps, issue, verdict, zones)?;
     }
     Ok(())
 }
 
-/// Adds the steps of the lawful lines of a product.
+/// Adds to `steps` the steps of those lines of a product that are lawful and not routine, after the
+/// steps of earlier products. `Err` is out of memory.
 fn add_product(alloc: Global, steps: &mut Steps, product: &Taken) -> Result<(), Oom>
     requires ascending { AreAscending steps.old.entries }
     ensures put { OnOk result
@@ -90,7 +96,8 @@ fn add_product(alloc: Global, steps: &mut Steps, product: &Taken) -> Result<(), 
     Ok(())
 }
 
-/// Returns the steps that the lawful lines of the products add, by event.
+/// Returns the steps of each event in each of its zones: the action and issue minute of each line
+/// that is lawful and not routine, in the order of the products.
 fn steps_of_all(alloc: Global, taken: &[Taken]) -> Result<Steps, Oom>
     ensures { IfOk result (λ steps. flat steps.entries ≡ steps_of_all taken.now) }
 {
@@ -120,14 +127,16 @@ impl Model for EventLives {
 }
 
 impl EventLives {
-    /// Adds the lives to `tracks`.
-    fn put_tracks(&self, alloc: Global, tracks: &mut List<Track>) -> Result<(), Oom>
+    /// Appends the lives of the event to `tracks`, one for each of its zones, by zone. `Err` is out
+    /// of memory.
+    fn add_tracks(&self, alloc: Global, tracks: &mut List<Track>) -> Result<(), Oom>
         ensures { OnOk result (tracks.new ≡ tracks.old ++ self.now) }
     {
-        self.zones.put_tracks(alloc, &self.event, tracks)
+        self.zones.add_tracks(alloc, &self.event, tracks)
     }
 
-    /// Returns the lives, by zone.
+    /// Returns the lives of the event, one for each of its zones, by zone: the action and issue
+    /// minute of each lawful line other than ROU there, in the order of the products.
     ///
     /// # Errors
     ///
@@ -136,12 +145,12 @@ impl EventLives {
         ensures { IfOk result (λ tracks. tracks ≡ self.now) }
     {
         let mut tracks = List::new(alloc);
-        self.put_tracks(alloc, &mut tracks)?;
+        self.add_tracks(alloc, &mut tracks)?;
         Ok(tracks)
     }
 }
 
-/// Returns the lives of each event.
+/// Returns the lives of each event in `steps`, in the order of the events.
 fn lives_of(alloc: Global, steps: Steps) -> Result<List<EventLives>, Oom>
     ensures { IfOk result (λ events. flat_map (λ e. e) events ≡ tracks_told (flat steps.entries)) }
 {
@@ -153,7 +162,13 @@ fn lives_of(alloc: Global, steps: Steps) -> Result<List<EventLives>, Oom>
     Ok(events)
 }
 
-/// Returns the life of each row that the products left, event by event.
+/// Returns the lives of each event that the products left rows of, in the order of the events;
+/// within an event they are by zone. A life has the action and issue minute of each lawful line
+/// other than ROU of the event in the zone, in the order of the products.
+///
+/// # Errors
+///
+/// Out of memory.
 pub fn events_in(alloc: Global, taken: &[Taken]) -> Result<List<EventLives>, Oom>
     ensures value { IfOk result (λ events.
         flat_map (λ e. e) events ≡ map (track_in taken.now) (living_in (rows_taken taken.now))) }
@@ -163,18 +178,25 @@ pub fn events_in(alloc: Global, taken: &[Taken]) -> Result<List<EventLives>, Oom
     lives_of(alloc, steps)
 }
 
-/// Returns the lives of events, one event after another.
+/// Returns the lives of the events in one list, event after event in their order, and within an
+/// event by zone.
 fn tracks_of(alloc: Global, events: &[EventLives]) -> Result<List<Track>, Oom>
     ensures { IfOk result (λ tracks. tracks ≡ flat_map (λ e. e) events.now) }
 {
     let mut tracks = List::new(alloc);
     for event in events {
-        event.put_tracks(alloc, &mut tracks)?;
+        event.add_tracks(alloc, &mut tracks)?;
     }
     Ok(tracks)
 }
 
-/// Returns the life of each row that the products left, by event, then zone.
+/// Returns the life of each row that the products left, by event, then zone: the action and issue
+/// minute of each lawful line other than ROU of the event in the zone, in the order of the
+/// products.
+///
+/// # Errors
+///
+/// Out of memory.
 pub fn tracks_in(alloc: Global, taken: &[Taken]) -> Result<List<Track>, Oom>
     ensures value { IfOk result
         (λ tracks. tracks ≡ map (track_in taken.now) (living_in (rows_taken taken.now))) }

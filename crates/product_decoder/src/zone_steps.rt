@@ -20,7 +20,8 @@ pub struct SharedStep {
 }
 
 impl SharedStep {
-    /// Returns the index of the step before this one, whose own index is `place`.
+    /// Returns the index of the step before this one, or `None` if there is none. `place` is the
+    /// index of this step; an index that is not below it counts as none.
     fn before(&self, place: u32) -> Option<u32>
         ensures { result ≡ below place self.now.before }
     {
@@ -42,7 +43,8 @@ fn same_place(a: Option<u32>, b: Option<u32>) -> bool
     }
 }
 
-/// Whether the step at `last` is this one, with the same step before it.
+/// Whether `shared` has at index `last` a step with this action and issue minute and with the step
+/// at index `before` (`None` if there is none) before it. `false` if it has no step at `last`.
 fn is_last(
     shared: &[SharedStep],
     last: u32,
@@ -60,8 +62,10 @@ fn is_last(
     }
 }
 
-/// Returns the index of a step after the one at `before`: that of the last step if it is the same,
-/// else of a new one.
+/// Returns the index in `shared` of a step with this action and issue minute, which comes after the
+/// step at index `before`, or is a first one if that is `None`. It is the index of the last step if
+/// that is the same, else of a new one that is appended. `Err` is out of memory, or that there is
+/// no index of 32 bits left.
 fn place_of(
     shared: &mut Vec<SharedStep>,
     action: &Action,
@@ -88,7 +92,9 @@ fn place_of(
 /// The index of the last step in each zone.
 type Lasts = ZoneMap<u32>;
 
-/// Adds the step of a line in its zone. `near` is a guess of where the zone is in `lasts`.
+/// Adds the step of a line, its action and issue minute, in `zone`, after the zone's last step in
+/// `lasts`. `near` is a guess of the index of the zone in `lasts`, and becomes the index after it
+/// if it is found; a wrong guess only costs time. `Err` is out of memory.
 fn add_step(
     shared: &mut Vec<SharedStep>,
     lasts: &mut Lasts,
@@ -108,7 +114,8 @@ fn add_step(
     lasts.set(*zone, place, &mut known)
 }
 
-/// Adds the step of a line in each of the zones.
+/// Adds the step of a line, its action and issue minute, in each of the zones, after the zone's
+/// last step in `lasts`. `Err` is out of memory; some zones may have the step by then.
 fn add_steps(
     shared: &mut Vec<SharedStep>,
     lasts: &mut Lasts,
@@ -128,8 +135,10 @@ fn add_steps(
     Ok(())
 }
 
-/// Appends the step at an index to `steps`, and returns the index of the step before it.
-fn put_step(
+/// Appends the step at index `place` of `shared` to `steps`, and returns the index of the step
+/// before it, or `None` if it is a first one. If there is no step at `place`, it appends nothing
+/// and returns `None`; `Err` is out of memory.
+fn append_step(
     shared: &[SharedStep],
     place: u32,
     steps: &mut Vec<(Action, Minute)>,
@@ -148,21 +157,23 @@ fn put_step(
     }
 }
 
-/// Returns the steps of a zone in order, given the index of the last.
+/// Returns the steps of a zone from the first to the last, each its action and issue minute. `last`
+/// is the index of the last one in `shared`.
 fn steps_to(alloc: Global, shared: &[SharedStep], last: u32) -> Result<Vec<(Action, Minute)>, Oom>
     ensures { IfOk result (λ steps. steps.items ≡ told (chains_of shared.now) (Some last)) }
 {
     let mut steps = Vec::new(alloc);
     let mut at = Some(last);
     while let Some(place) = at {
-        at = put_step(shared, place, &mut steps)?;
+        at = append_step(shared, place, &mut steps)?;
     }
     steps.reverse();
     Ok(steps)
 }
 
-/// Adds the life of an event in each of the zones to `tracks`.
-fn put_each(
+/// Appends to `tracks` the life of an event in each of its zones, in the order of `lasts`, which
+/// has each zone with the index of its last step in `shared`. `Err` is out of memory.
+fn add_tracks_in_zones(
     alloc: Global,
     shared: &[SharedStep],
     event: &Event,
@@ -202,7 +213,7 @@ impl Model for ZoneSteps {
 }
 
 impl ZoneSteps {
-    /// Empty, without capacity.
+    /// Returns the steps of an event that has none in any zone, without capacity.
     pub fn new(alloc: Global) -> Self
         ensures { result ≡ [] }
     {
@@ -212,7 +223,12 @@ impl ZoneSteps {
         }
     }
 
-    /// Adds the step of a line in each of the zones. On `Oom` no steps are left.
+    /// Adds the step of a line of the event, its action and issue minute, in each of the zones,
+    /// after the zone's steps so far. On `Oom` all steps of the event are lost.
+    ///
+    /// # Errors
+    ///
+    /// Out of memory.
     pub fn add(
         &mut self,
         alloc: Global,
@@ -231,8 +247,13 @@ impl ZoneSteps {
         Ok(())
     }
 
-    /// Adds the life of the event in each zone to `tracks`.
-    pub fn put_tracks(
+    /// Appends to `tracks` the life of the event in each of its zones, by zone. `event` is the
+    /// event whose steps these are.
+    ///
+    /// # Errors
+    ///
+    /// Out of memory.
+    pub fn add_tracks(
         &self,
         alloc: Global,
         event: &Event,
@@ -241,6 +262,6 @@ impl ZoneSteps {
         ensures { OnOk result (tracks.new ≡ tracks.old ++ tracks_told (under event.now self.now)) }
     {
         let lasts = self.lasts.list(alloc)?;
-        put_each(alloc, &self.shared, event, lasts.as_slice(), tracks)
+        add_tracks_in_zones(alloc, &self.shared, event, lasts.as_slice(), tracks)
     }
 }

@@ -9,7 +9,7 @@ use Rattle.vtec_string.proofs.Laying.{vtec_back, vtec_hit}
 use Rattle.hvtec_string.specs.Columns.{IsHvtec, hvtec_of}
 use Rattle.hvtec_string.proofs.Laying.{hvtec_back}
 use Rattle.product_frame.specs.Parts.{has_slash}
-use Rattle.product_frame.specs.Events.{with_flood, pair_of}
+use Rattle.product_frame.specs.Events.{with_flood, parse_pair}
 use Rattle.product_frame.specs.Frames.{line_at}
 use Rattle.product_frame.specs.Grammar.{HasFlood, AreEvents, HasNoSlash}
 use Rattle.product_frame.specs.Walking.{next_at, ahead}
@@ -44,26 +44,26 @@ no_slash_no_hvtec bytes (s ∷ lines) h = no_hvtec (line_at bytes s) (λ f is. l
 
 -- ---- the pair of a line and the one behind it
 
-pub pair_hit : (line next : List ℕ) (p : Pair) → IsVtec line p.vtec → hvtec_of next ≡ p.flood → pair_of line next ≡ Some p
-unfolding pair_of
+pub pair_hit : (line next : List ℕ) (p : Pair) → IsVtec line p.vtec → hvtec_of next ≡ p.flood → parse_pair line next ≡ Some p
+unfolding parse_pair
 pair_hit line next p is flood = rw (vtec_hit line p.vtec is, flood) refl
 
-pub pair_none : (line next : List ℕ) → ((v : Vtec) → IsVtec line v → ⊥) → pair_of line next ≡ None
-unfolding pair_of
+pub pair_none : (line next : List ℕ) → ((v : Vtec) → IsVtec line v → ⊥) → parse_pair line next ≡ None
+unfolding parse_pair
 pair_none line next none = by (vtec_of line) refl
   where
     by : (r : Option Vtec) → vtec_of line ≡ r → option_map (with_flood (hvtec_of next)) r ≡ None
     by None e = refl
     by (Some v) e = absurd (none v (vtec_back line v e))
 
-pub none_paired : (line next : List ℕ) → pair_of line next ≡ None → (v : Vtec) → IsVtec line v → ⊥
+pub none_paired : (line next : List ℕ) → parse_pair line next ≡ None → (v : Vtec) → IsVtec line v → ⊥
 none_paired line next none v is = clash (with_flood (hvtec_of next) v) (sym none ∙ pair_hit line next (with_flood (hvtec_of next) v) is refl)
   where
     clash : (p : Pair) → ◌≡◌ {A = Option Pair} None (Some p) → ⊥
     clash p e = cc e
 
-pub pair_back : (line next : List ℕ) (p : Pair) → pair_of line next ≡ Some p → IsVtec line p.vtec × (hvtec_of next ≡ p.flood)
-unfolding pair_of
+pub pair_back : (line next : List ℕ) (p : Pair) → parse_pair line next ≡ Some p → IsVtec line p.vtec × (hvtec_of next ≡ p.flood)
+unfolding parse_pair
 pair_back line next p h = by (vtec_of line) refl h
   where
     one : (a b : Pair) → ◌≡◌ {A = Option Pair} (Some a) (Some b) → a ≡ b
@@ -89,7 +89,7 @@ pub record Begins (bytes lines : List ℕ) (pairs : List Pair) (others : List �
   pub whole : lines ≡ events ++ others
   pub spelled : AreEvents bytes events pairs
 
-pub one_pair : (bytes lines next events others : List ℕ) (s : ℕ) (p : Pair) (pairs : List Pair) → pair_of (line_at bytes s) (next_at bytes lines) ≡ Some p → length next ≡ ahead p.flood → lines ≡ next ++ (events ++ others) → AreEvents bytes events pairs →
+pub one_pair : (bytes lines next events others : List ℕ) (s : ℕ) (p : Pair) (pairs : List Pair) → parse_pair (line_at bytes s) (next_at bytes lines) ≡ Some p → length next ≡ ahead p.flood → lines ≡ next ++ (events ++ others) → AreEvents bytes events pairs →
     Begins bytes (s ∷ lines) (p ∷ pairs) others
 one_pair bytes lines next events others s p pairs is size whole spelled =
     let back = pair_back (line_at bytes s) (next_at bytes lines) p is in

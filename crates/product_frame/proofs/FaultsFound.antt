@@ -8,15 +8,15 @@ use Rattle.ugc_codes.specs.Reading.{ugc_of}
 use Rattle.ugc_codes.specs.declared.read.UgcRead.{UgcRead}
 use Rattle.ugc_codes.specs.declared.read.UgcFault.{UgcFault}
 use Rattle.ugc_codes.proofs.Lines.{read_is_ugc, ugc_is_read}
-use Rattle.product_frame.specs.Text.{starts_from, line_of, is_empty, ends_in}
+use Rattle.product_frame.specs.Text.{starts_from, line_of, is_empty, line_end_count}
 use Rattle.product_frame.specs.Parts.{begins, has_slash, is_end}
 use Rattle.hazard_types.specs.declared.line.Flood.{Flood}
 use Rattle.hvtec_string.specs.Columns.{IsHvtec, hvtec_of}
 use Rattle.hvtec_string.proofs.Laying.{hvtec_hit}
-use Rattle.product_frame.specs.Events.{pair_of}
+use Rattle.product_frame.specs.Events.{parse_pair}
 use Rattle.product_frame.proofs.Events.{no_slash_no_hvtec, none_paired, pair_back, one_pair}
 use Rattle.product_frame.specs.Frames.{line_at}
-use Rattle.product_frame.specs.Walking.{at_outside, open_by, at_pairs, at_rest, paired, next_at, ahead, step, walk}
+use Rattle.product_frame.specs.Walking.{take_line_outside, open_by, take_line_at_pairs, take_line_at_rest, paired, next_at, ahead, step, walk}
 use Rattle.product_frame.specs.Grammar.{AreEvents, LacksFlood, AreRest}
 use Rattle.product_frame.specs.Faults.{BeginsWith, Opens, StopsAtVtec, HasNoEnd, IsFaulty, IsFirstFault}
 use Rattle.product_frame.specs.declared.frame.FrameSegment.{FrameSegment}
@@ -104,7 +104,7 @@ stops_behind bytes lines next events left more at p [] flood size whole left_are
     clash a b = cc
 stops_behind bytes lines next events left more at p (q ∷ pairs) flood size whole left_are spelled no_flood lacks h is = no_flood lacks h is
 
-one_event : (bytes lines : List ℕ) (s first total : ℕ) (x : FrameFault) (p : Pair) → pair_of (line_at bytes s) (next_at bytes lines) ≡ Some p → PairsFault bytes lines (ahead p.flood) first total x → PairsFault bytes (s ∷ lines) 0 first total x
+one_event : (bytes lines : List ℕ) (s first total : ℕ) (x : FrameFault) (p : Pair) → parse_pair (line_at bytes s) (next_at bytes lines) ≡ Some p → PairsFault bytes lines (ahead p.flood) first total x → PairsFault bytes (s ∷ lines) 0 first total x
 one_event bytes lines s first total x p is (inl h) =
     let n = h.1 in
     let b = one_pair bytes lines n.ugc n.events n.others s p n.pairs is n.size n.whole n.spelled in
@@ -123,7 +123,7 @@ one_event bytes lines s first total x p is (inr (inl t)) =
     }))
 one_event bytes lines s first total x p is (inr (inr n)) = inr (inr (record { ends = pair_more bytes lines s p is n.ends; then = n.then }))
 
-bad_event : (bytes lines : List ℕ) (s first number total : ℕ) (x : FrameFault) → x ≡ BadVtec number → number + (length lines + 1) ≡ total → has_slash (line_at bytes s) ≡ true → pair_of (line_at bytes s) (next_at bytes lines) ≡ None → PairsFault bytes (s ∷ lines) 0 first total x
+bad_event : (bytes lines : List ℕ) (s first number total : ℕ) (x : FrameFault) → x ≡ BadVtec number → number + (length lines + 1) ≡ total → has_slash (line_at bytes s) ≡ true → parse_pair (line_at bytes s) (next_at bytes lines) ≡ None → PairsFault bytes (s ∷ lines) 0 first total x
 bad_event bytes lines s first number total x is sum slash none = inr (inl (record {
   number = number;
   is = is;
@@ -164,15 +164,15 @@ here : (bytes lines : List ℕ) (s total : ℕ) (x : FrameFault) → begins (lin
 here bytes lines s total x b f = record { segments = []; later = s ∷ lines; outside = []; start = s; behind = lines; before = refl; whole = refl; passed = tt; begun = b; fault = f }
 
 begun_here : (bytes lines : List ℕ) (s number total : ℕ) (x : FrameFault) (u : UgcRead) → begins (line_at bytes s) ≡ true → ugc_of (drop s bytes) ≡ Ok u → is_empty (line_of (drop u.used (drop s bytes))) ≡ true → number + (length lines + 1) ≡ total →
-    PairsFault bytes lines (ends_in (take u.used (drop s bytes))) number total x → IsFirstFault bytes (s ∷ lines) total x
+    PairsFault bytes lines (line_end_count (take u.used (drop s bytes))) number total x → IsFirstFault bytes (s ∷ lines) total x
 begun_here bytes lines s number total x u b read fills sum f = by f
   where
-    opens : Opens (drop s bytes) (ends_in (take u.used (drop s bytes)))
+    opens : Opens (drop s bytes) (line_end_count (take u.used (drop s bytes)))
     opens = record { zones = u.zones; expiry = u.expiry; used = u.used; ugc = read_is_ugc (drop s bytes) u read; fills = fills; ends_are = refl }
 
-    by : PairsFault bytes lines (ends_in (take u.used (drop s bytes))) number total x → IsFirstFault bytes (s ∷ lines) total x
-    by (inl h) = subst (IsFirstFault bytes (s ∷ lines) total) (sym h.0) (here bytes lines s total (NoSegmentEnd number) b (sum, ends_in (take u.used (drop s bytes)), opens, h.1))
-    by (inr (inl t)) = subst (IsFirstFault bytes (s ∷ lines) total) (sym t.is) (here bytes lines s total (BadVtec t.number) b (ends_in (take u.used (drop s bytes)), opens, t.from, t.stops, t.sum))
+    by : PairsFault bytes lines (line_end_count (take u.used (drop s bytes))) number total x → IsFirstFault bytes (s ∷ lines) total x
+    by (inl h) = subst (IsFirstFault bytes (s ∷ lines) total) (sym h.0) (here bytes lines s total (NoSegmentEnd number) b (sum, line_end_count (take u.used (drop s bytes)), opens, h.1))
+    by (inr (inl t)) = subst (IsFirstFault bytes (s ∷ lines) total) (sym t.is) (here bytes lines s total (BadVtec t.number) b (line_end_count (take u.used (drop s bytes)), opens, t.from, t.stops, t.sum))
     by (inr (inr p)) =
         let then = p.then in
         record { segments = made u.zones u.expiry p.ends.pairs ∷ then.segments; later = then.later; outside = then.outside; start = then.start; behind = then.behind; before = (p.ends.rest.later, segment_here bytes lines s u b read fills p.ends, then.before); whole = then.whole; passed = then.passed; begun = then.begun; fault = then.fault }
@@ -183,14 +183,14 @@ abbrev pub Later : List ℕ → List ℕ → ℕ → FrameFault → Type 0
 Later bytes lines total x = (gs : Out) (zs : List Place) (d : DayStamp) (ps : List Pair) (first left number : ℕ) (stage : Stage) → left ≤ length lines → number + length lines ≡ total → walk bytes (state gs zs d ps first left stage) number lines ≡ Err x → Faulty bytes lines stage left first total x
 
 rest_line : (bytes lines : List ℕ) (total : ℕ) (x : FrameFault) (gs : Out) (zs : List Place) (d : DayStamp) (ps : List Pair) (first number s : ℕ) (stage : Stage) → Later bytes lines total x → number + 1 + length lines ≡ total →
-    (at_rest (state gs zs d ps first 0 stage) (line_at bytes s) >>= λ v. walk bytes v (number + 1) lines) ≡ Err x → RestFault bytes (s ∷ lines) first total x
+    (take_line_at_rest (state gs zs d ps first 0 stage) (line_at bytes s) >>= λ v. walk bytes v (number + 1) lines) ≡ Err x → RestFault bytes (s ∷ lines) first total x
 rest_line bytes lines total x gs zs d ps first number s stage later sum h =
     elim (cases_Bool (is_end (line_at bytes s))) [
       | inl e ↦ rest_end bytes lines s first total x e (later (gs ++ made zs d ps ∷ []) [] d [] first 0 (number + 1) Outside (omega arith) sum (rw e at h))
       | inr e ↦ rest_more bytes lines s first total x e (later gs zs d ps first 0 (number + 1) Rest (omega arith) sum (rw e at h))
     ]
 
-event_line : (bytes lines : List ℕ) (total : ℕ) (x : FrameFault) (gs : Out) (zs : List Place) (d : DayStamp) (ps : List Pair) (first number s : ℕ) → Later bytes lines total x → number + 1 + length lines ≡ total → has_slash (line_at bytes s) ≡ true → (r : Option Pair) → pair_of (line_at bytes s) (next_at bytes lines) ≡ r →
+event_line : (bytes lines : List ℕ) (total : ℕ) (x : FrameFault) (gs : Out) (zs : List Place) (d : DayStamp) (ps : List Pair) (first number s : ℕ) → Later bytes lines total x → number + 1 + length lines ≡ total → has_slash (line_at bytes s) ≡ true → (r : Option Pair) → parse_pair (line_at bytes s) (next_at bytes lines) ≡ r →
     (paired (state gs zs d ps first 0 Pairs) number r >>= λ v. walk bytes v (number + 1) lines) ≡ Err x → PairsFault bytes (s ∷ lines) 0 first total x
 event_line bytes lines total x gs zs d ps first number s later sum slash None is h = bad_event bytes lines s first number total x (same_fault (BadVtec number) x h) (omega (arith, sum)) slash is
 event_line bytes lines total x gs zs d ps first number s later sum slash (Some p) is h =
@@ -198,10 +198,10 @@ event_line bytes lines total x gs zs d ps first number s later sum slash (Some p
     one_event bytes lines s first total x p is (later gs zs d (ps ++ p ∷ []) first (ahead p.flood) (number + 1) Pairs (ahead_fits bytes lines p.flood flood) sum h)
 
 pair_line : (bytes lines : List ℕ) (total : ℕ) (x : FrameFault) (gs : Out) (zs : List Place) (d : DayStamp) (ps : List Pair) (first number s : ℕ) → Later bytes lines total x → number + 1 + length lines ≡ total →
-    (at_pairs (state gs zs d ps first 0 Pairs) number (line_at bytes s) (next_at bytes lines) >>= λ v. walk bytes v (number + 1) lines) ≡ Err x → PairsFault bytes (s ∷ lines) 0 first total x
+    (take_line_at_pairs (state gs zs d ps first 0 Pairs) number (line_at bytes s) (next_at bytes lines) >>= λ v. walk bytes v (number + 1) lines) ≡ Err x → PairsFault bytes (s ∷ lines) 0 first total x
 pair_line bytes lines total x gs zs d ps first number s later sum h =
     elim (cases_Bool (has_slash (line_at bytes s))) [
-      | inl e ↦ event_line bytes lines total x gs zs d ps first number s later sum e (pair_of (line_at bytes s) (next_at bytes lines)) refl (rw e at h)
+      | inl e ↦ event_line bytes lines total x gs zs d ps first number s later sum e (parse_pair (line_at bytes s) (next_at bytes lines)) refl (rw e at h)
       | inr e ↦ no_event bytes lines s first total x e (rest_line bytes lines total x gs zs d ps first number s Pairs later sum (rw e at h))
     ]
 
@@ -217,13 +217,13 @@ ugc_line bytes lines total x gs zs d ps first number s later starts sum b (Err f
     clash u f e = cc e
 ugc_line bytes lines total x gs zs d ps first number s later starts sum b (Ok u) is h =
     elim (cases_Bool (is_empty (line_of (drop u.used (drop s bytes))))) [
-      | inl e ↦ begun_here bytes lines s number total x u b is e (omega (arith, sum)) (later gs u.zones u.expiry [] number (ends_in (take u.used (drop s bytes))) (number + 1) Pairs (ends_fit bytes lines s u.used starts) sum (rw e at h))
+      | inl e ↦ begun_here bytes lines s number total x u b is e (omega (arith, sum)) (later gs u.zones u.expiry [] number (line_end_count (take u.used (drop s bytes))) (number + 1) Pairs (ends_fit bytes lines s u.used starts) sum (rw e at h))
       | inr e ↦ subst (IsFirstFault bytes (s ∷ lines) total) (sym (same_fault (BadUgc number) x (rw e at h))) (here bytes lines s total (BadUgc number) b (omega (arith, sum), inr (u.zones, u.expiry, u.used, read_is_ugc (drop s bytes) u is, e)))
     ]
 
 outside_line : (bytes lines : List ℕ) (total : ℕ) (x : FrameFault) (gs : Out) (zs : List Place) (d : DayStamp) (ps : List Pair) (first number s : ℕ) → Later bytes lines total x → lines ≡ starts_from s (drop s bytes) → number + 1 + length lines ≡ total →
-    (at_outside (state gs zs d ps first 0 Outside) number (drop s bytes) >>= λ v. walk bytes v (number + 1) lines) ≡ Err x → IsFirstFault bytes (s ∷ lines) total x
-unfolding at_outside
+    (take_line_outside (state gs zs d ps first 0 Outside) number (drop s bytes) >>= λ v. walk bytes v (number + 1) lines) ≡ Err x → IsFirstFault bytes (s ∷ lines) total x
+unfolding take_line_outside
 outside_line bytes lines total x gs zs d ps first number s later starts sum h =
     elim (cases_Bool (begins (line_at bytes s))) [
       | inl e ↦ ugc_line bytes lines total x gs zs d ps first number s later starts sum e (ugc_of (drop s bytes)) refl (rw e at h)

@@ -12,7 +12,7 @@ use Rattle.vtec_string.specs.Columns.{IsVtec}
 use Rattle.hvtec_string.specs.Columns.{hvtec_of}
 use Rattle.product_frame.proofs.Events.{pair_none, no_hvtec, no_slash_no_hvtec}
 use Rattle.product_frame.specs.Frames.{line_at}
-use Rattle.product_frame.specs.Walking.{at_outside, next_at, step, walk}
+use Rattle.product_frame.specs.Walking.{take_line_outside, next_at, step, walk}
 use Rattle.product_frame.specs.Grammar.{AreRest, HasNoSlash}
 use Rattle.product_frame.specs.Faults.{BeginsWith, IsBadUgc, Opens, HasNoEnd, IsFaulty, IsFirstFault}
 use Rattle.product_frame.specs.declared.frame.FrameSegment.{FrameSegment}
@@ -57,7 +57,7 @@ stops bytes more at gs zs d ps first number slash none = rw (slash, pair_none (l
 -- zones that are no UGC text
 bad_begin : (bytes more : List ℕ) (start : ℕ) (gs : List FrameSegment) (zs : List Place) (d : DayStamp) (ps : List Pair) (first number : ℕ) → begins (line_at bytes start) ≡ true → IsBadUgc (drop start bytes) →
     walk bytes (state gs zs d ps first 0 Outside) number (start ∷ more) ≡ Err (BadUgc number)
-unfolding step at_outside
+unfolding step take_line_outside
 bad_begin bytes more start gs zs d ps first number b (inl none) = by (ugc_of (drop start bytes)) refl
   where
     by : (r : Result UgcRead UgcFault) → ugc_of (drop start bytes) ≡ r → walk bytes (state gs zs d ps first 0 Outside) number (start ∷ more) ≡ Err (BadUgc number)

@@ -7,12 +7,12 @@ use Rattle.hazard_types.specs.declared.calendar.DayStamp.{DayStamp}
 use Rattle.ugc_codes.specs.Reading.{ugc_of}
 use Rattle.ugc_codes.specs.declared.read.UgcRead.{UgcRead}
 use Rattle.ugc_codes.specs.declared.read.UgcFault.{UgcFault}
-use Rattle.product_frame.specs.Text.{line_of, is_empty, ends_in}
+use Rattle.product_frame.specs.Text.{line_of, is_empty, line_end_count}
 use Rattle.product_frame.specs.Parts.{begins, has_slash, is_end}
-use Rattle.product_frame.specs.Events.{pair_of}
+use Rattle.product_frame.specs.Events.{parse_pair}
 use Rattle.product_frame.specs.declared.frame.Pair.{Pair}
 use Rattle.product_frame.specs.Frames.{line_at}
-use Rattle.product_frame.specs.Walking.{at_outside, open_by, at_pairs, at_rest, paired, next_at, ahead, step, walk}
+use Rattle.product_frame.specs.Walking.{take_line_outside, open_by, take_line_at_pairs, take_line_at_rest, paired, next_at, ahead, step, walk}
 use Rattle.product_frame.specs.Grammar.{AreSegments}
 use Rattle.product_frame.specs.declared.frame.FrameSegment.{FrameSegment}
 use Rattle.product_frame.specs.declared.frame.FrameFault.{FrameFault}
@@ -62,7 +62,7 @@ one_more bytes lines s (g ∷ segments) b h = (h.0, segment_more bytes lines s g
 
 -- a segment that begins here
 begun_here : (bytes lines : List ℕ) (out gs : Out) (s : ℕ) (u : UgcRead) → begins (line_at bytes s) ≡ true → ugc_of (drop s bytes) ≡ Ok u → is_empty (line_of (drop u.used (drop s bytes))) ≡ true →
-    InPairs bytes lines out gs u.zones u.expiry [] (ends_in (take u.used (drop s bytes))) → InNone bytes (s ∷ lines) out gs
+    InPairs bytes lines out gs u.zones u.expiry [] (line_end_count (take u.used (drop s bytes))) → InNone bytes (s ∷ lines) out gs
 begun_here bytes lines out gs s u b read fills p = record { segments = made u.zones u.expiry p.ends.pairs ∷ p.segments; then = (p.ends.rest.later, segment_here bytes lines s u b read fills p.ends, p.then); is = p.is }
 
 at_end : (bytes lines : List ℕ) (out gs : Out) (zs : List Place) (d : DayStamp) (ps : List Pair) (s : ℕ) → is_end (line_at bytes s) ≡ true → InNone bytes lines out (gs ++ made zs d ps ∷ []) → InRest bytes (s ∷ lines) out gs zs d ps
@@ -75,7 +75,7 @@ not_end bytes lines out gs zs d ps s e r = record { ends = end_later bytes lines
 no_event : (bytes lines : List ℕ) (out gs : Out) (zs : List Place) (d : DayStamp) (ps : List Pair) (s : ℕ) → has_slash (line_at bytes s) ≡ false → InRest bytes (s ∷ lines) out gs zs d ps → InPairs bytes (s ∷ lines) out gs zs d ps 0
 no_event bytes lines out gs zs d ps s no_slash r = record { ends = only_rest bytes lines s no_slash r.ends; segments = r.segments; then = r.then; is = r.is ∙ ap (λ (p : List Pair). gs ++ made zs d p ∷ r.segments) (sym (append-nil ps)) }
 
-one_event : (bytes lines : List ℕ) (out gs : Out) (zs : List Place) (d : DayStamp) (ps : List Pair) (s : ℕ) (v : Pair) → pair_of (line_at bytes s) (next_at bytes lines) ≡ Some v →
+one_event : (bytes lines : List ℕ) (out gs : Out) (zs : List Place) (d : DayStamp) (ps : List Pair) (s : ℕ) (v : Pair) → parse_pair (line_at bytes s) (next_at bytes lines) ≡ Some v →
     InPairs bytes lines out gs zs d (ps ++ v ∷ []) (ahead v.flood) → InPairs bytes (s ∷ lines) out gs zs d ps 0
 one_event bytes lines out gs zs d ps s v is p = record { ends = pair_more bytes lines s v is p.ends; segments = p.segments; then = p.then; is = p.is ∙ ap (λ (q : List Pair). gs ++ made zs d q ∷ p.segments) (append_assoc ps (v ∷ []) p.ends.pairs) }
 
@@ -86,23 +86,23 @@ abbrev pub Later : List ℕ → List ℕ → Out → Type 0
 Later bytes lines out = (gs : Out) (zs : List Place) (d : DayStamp) (ps : List Pair) (first left number : ℕ) (stage : Stage) → walk bytes (state gs zs d ps first left stage) number lines ≡ Ok out → Sound bytes lines out gs zs d ps stage left
 
 rest_line : (bytes lines : List ℕ) (out gs : Out) (zs : List Place) (d : DayStamp) (ps : List Pair) (first number s : ℕ) (stage : Stage) → Later bytes lines out →
-    (at_rest (state gs zs d ps first 0 stage) (line_at bytes s) >>= λ v. walk bytes v (number + 1) lines) ≡ Ok out → InRest bytes (s ∷ lines) out gs zs d ps
+    (take_line_at_rest (state gs zs d ps first 0 stage) (line_at bytes s) >>= λ v. walk bytes v (number + 1) lines) ≡ Ok out → InRest bytes (s ∷ lines) out gs zs d ps
 rest_line bytes lines out gs zs d ps first number s stage later h =
     elim (cases_Bool (is_end (line_at bytes s))) [
       | inl e ↦ at_end bytes lines out gs zs d ps s e (later (gs ++ made zs d ps ∷ []) [] d [] first 0 (number + 1) Outside (rw e at h))
       | inr e ↦ not_end bytes lines out gs zs d ps s e (later gs zs d ps first 0 (number + 1) Rest (rw e at h))
     ]
 
-event_line : (bytes lines : List ℕ) (out gs : Out) (zs : List Place) (d : DayStamp) (ps : List Pair) (first number s : ℕ) → Later bytes lines out → (r : Option Pair) → pair_of (line_at bytes s) (next_at bytes lines) ≡ r →
+event_line : (bytes lines : List ℕ) (out gs : Out) (zs : List Place) (d : DayStamp) (ps : List Pair) (first number s : ℕ) → Later bytes lines out → (r : Option Pair) → parse_pair (line_at bytes s) (next_at bytes lines) ≡ r →
     (paired (state gs zs d ps first 0 Pairs) number r >>= λ v. walk bytes v (number + 1) lines) ≡ Ok out → InPairs bytes (s ∷ lines) out gs zs d ps 0
 event_line bytes lines out gs zs d ps first number s later None is h = absurd (never (BadVtec number) out h)
 event_line bytes lines out gs zs d ps first number s later (Some v) is h = one_event bytes lines out gs zs d ps s v is (later gs zs d (ps ++ v ∷ []) first (ahead v.flood) (number + 1) Pairs h)
 
 pair_line : (bytes lines : List ℕ) (out gs : Out) (zs : List Place) (d : DayStamp) (ps : List Pair) (first number s : ℕ) → Later bytes lines out →
-    (at_pairs (state gs zs d ps first 0 Pairs) number (line_at bytes s) (next_at bytes lines) >>= λ v. walk bytes v (number + 1) lines) ≡ Ok out → InPairs bytes (s ∷ lines) out gs zs d ps 0
+    (take_line_at_pairs (state gs zs d ps first 0 Pairs) number (line_at bytes s) (next_at bytes lines) >>= λ v. walk bytes v (number + 1) lines) ≡ Ok out → InPairs bytes (s ∷ lines) out gs zs d ps 0
 pair_line bytes lines out gs zs d ps first number s later h =
     elim (cases_Bool (has_slash (line_at bytes s))) [
-      | inl e ↦ event_line bytes lines out gs zs d ps first number s later (pair_of (line_at bytes s) (next_at bytes lines)) refl (rw e at h)
+      | inl e ↦ event_line bytes lines out gs zs d ps first number s later (parse_pair (line_at bytes s) (next_at bytes lines)) refl (rw e at h)
       | inr e ↦ no_event bytes lines out gs zs d ps s e (rest_line bytes lines out gs zs d ps first number s Pairs later (rw e at h))
     ]
 
@@ -111,13 +111,13 @@ ugc_line : (bytes lines : List ℕ) (out gs : Out) (zs : List Place) (d : DaySta
 ugc_line bytes lines out gs zs d ps first number s later b (Err f) is h = absurd (never (BadUgc number) out h)
 ugc_line bytes lines out gs zs d ps first number s later b (Ok u) is h =
     elim (cases_Bool (is_empty (line_of (drop u.used (drop s bytes))))) [
-      | inl e ↦ begun_here bytes lines out gs s u b is e (later gs u.zones u.expiry [] number (ends_in (take u.used (drop s bytes))) (number + 1) Pairs (rw e at h))
+      | inl e ↦ begun_here bytes lines out gs s u b is e (later gs u.zones u.expiry [] number (line_end_count (take u.used (drop s bytes))) (number + 1) Pairs (rw e at h))
       | inr e ↦ absurd (never (BadUgc number) out (rw e at h))
     ]
 
 outside_line : (bytes lines : List ℕ) (out gs : Out) (zs : List Place) (d : DayStamp) (ps : List Pair) (first number s : ℕ) → Later bytes lines out →
-    (at_outside (state gs zs d ps first 0 Outside) number (drop s bytes) >>= λ v. walk bytes v (number + 1) lines) ≡ Ok out → InNone bytes (s ∷ lines) out gs
-unfolding at_outside
+    (take_line_outside (state gs zs d ps first 0 Outside) number (drop s bytes) >>= λ v. walk bytes v (number + 1) lines) ≡ Ok out → InNone bytes (s ∷ lines) out gs
+unfolding take_line_outside
 outside_line bytes lines out gs zs d ps first number s later h =
     elim (cases_Bool (begins (line_at bytes s))) [
       | inl e ↦ ugc_line bytes lines out gs zs d ps first number s later e (ugc_of (drop s bytes)) refl (rw e at h)

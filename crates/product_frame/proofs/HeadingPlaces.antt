@@ -4,7 +4,7 @@ use Rattle.std.specs.Prelude.{slice_index, is_some}
 use Rattle.std.proofs.lemmas.Bool.{cases_Bool}
 use Rattle.product_frame.specs.Text.{starts, starts_from, next_start}
 use Rattle.product_frame.specs.Parts.{heading_of}
-use Rattle.product_frame.specs.Frames.{line_at, heading_index, first_heading, end_by, or_fault, frame_from, frame_of}
+use Rattle.product_frame.specs.Frames.{line_at, heading_index, first_heading, end_by, or_fault, frame_from, read_first_frame}
 use Rattle.product_frame.specs.declared.frame.FrameFault.{FrameFault}
 use Rattle.product_frame.specs.declared.frame.FrameFault.TheVariants.{NoHeading}
 use Rattle.product_frame.proofs.LineEnds.{from_next, starts_are}
@@ -55,14 +55,14 @@ mapped : {A : Type 0} (f : ℕ → ℕ) (o : Option ℕ) (x : FrameFault) (g : �
 mapped f None x g = refl
 mapped f (Some k) x g = refl
 
-frame_is : (bytes : List ℕ) → or_fault (first_heading bytes (starts bytes)) NoHeading (λ at. frame_from (drop at bytes)) ≡ frame_of bytes
-unfolding frame_of
+frame_is : (bytes : List ℕ) → or_fault (first_heading bytes (starts bytes)) NoHeading (λ at. frame_from (drop at bytes)) ≡ read_first_frame bytes
+unfolding read_first_frame
 frame_is bytes =
     ap (λ (o : Option ℕ). or_fault o NoHeading (λ at. frame_from (drop at bytes))) (place bytes (starts bytes))
     ∙ mapped (slice_index (starts bytes)) (heading_index bytes 0 (starts bytes)) NoHeading (λ at. frame_from (drop at bytes))
 
-pub frame_found : (bytes : List ℕ) (at : ℕ) → Some at ≡ first_heading bytes (starts bytes) → frame_from (drop at bytes) ≡ frame_of bytes
+pub frame_found : (bytes : List ℕ) (at : ℕ) → Some at ≡ first_heading bytes (starts bytes) → frame_from (drop at bytes) ≡ read_first_frame bytes
 frame_found bytes at e = ap (λ (o : Option ℕ). or_fault o NoHeading (λ at. frame_from (drop at bytes))) e ∙ frame_is bytes
 
-pub no_frame : (bytes : List ℕ) → None ≡ first_heading bytes (starts bytes) → frame_of bytes ≡ Err NoHeading
+pub no_frame : (bytes : List ℕ) → None ≡ first_heading bytes (starts bytes) → read_first_frame bytes ≡ Err NoHeading
 no_frame bytes e = sym (frame_is bytes) ∙ ap (λ (o : Option ℕ). or_fault o NoHeading (λ at. frame_from (drop at bytes))) (sym e)

@@ -4,7 +4,7 @@ use Rattle.std.specs.Prelude.{slice_index, nat_le}
 use Rattle.std.proofs.lemmas.Bool.{cases_Bool, cases_lt, eqb-true, le-leb, lt-leb}
 use Rattle.hazard_types.specs.Calendar.{is_digit}
 use Rattle.product_frame.specs.Text.{line_of, before, is_left_out}
-use Rattle.product_frame.specs.Parts.{is_front, may_be_heading, heading_of, begins, begins_by, begins_by_digit, has_slash, is_end, local_at}
+use Rattle.product_frame.specs.Parts.{is_front, may_be_heading, heading_of, begins, begins_by, begins_by_digit, has_slash, is_end, parse_local_line}
 use Rattle.product_frame.proofs.LineKinds.{no_front, no_heading_length, no_local_first}
 
 -- ---- the bytes of a line are the first bytes of the text
@@ -120,6 +120,6 @@ no_digit_line : (line : List ℕ) (c : ℕ) → is_digit c ≡ false → (0 < le
 no_digit_line [] c h first = refl
 no_digit_line (d ∷ line) c h first = let e : d ≡ c = first (omega arith) in rw e h
 
-pub no_local : (t : List ℕ) → begins_by_digit t ≡ false → local_at (line_of t) ≡ None
+pub no_local : (t : List ℕ) → begins_by_digit t ≡ false → parse_local_line (line_of t) ≡ None
 no_local [] h = no_local_first [] refl
 no_local (c ∷ t) h = no_local_first (line_of (c ∷ t)) (no_digit_line (line_of (c ∷ t)) c h (byte_at (c ∷ t) 0))

@@ -8,11 +8,11 @@ use Rattle.hazard_types.specs.Places.{is_capital}
 use Rattle.desk_clock.specs.LocalForm.{written_in, read_of}
 use Rattle.desk_clock.specs.Words.{first_word}
 use Rattle.hazard_types.specs.Characters.{is_blank as is_word_blank}
-use Rattle.desk_clock.specs.LocalWords.{number_of, parse_time_of_day, parse_words, are_letters}
-use Rattle.desk_clock.specs.Names.{place_of, weekday_names}
+use Rattle.desk_clock.specs.LocalWords.{parse_number, parse_time_of_day, parse_words, are_letters}
+use Rattle.desk_clock.specs.Names.{find_name, weekday_names}
 use Rattle.hazard_types.specs.Characters.{is_blank}
 use Rattle.product_frame.specs.Text.{line_of}
-use Rattle.product_frame.specs.Parts.{is_ttaaii, has_office, is_bbb, is_front, heading_by, heading_of, begins, local_at}
+use Rattle.product_frame.specs.Parts.{is_ttaaii, has_office, is_bbb, is_front, heading_by, heading_of, begins, parse_local_line}
 use Rattle.product_frame.specs.LineRules.{HasNoDigit}
 use Rattle.product_frame.proofs.Runs.{all_line}
 
@@ -117,8 +117,8 @@ first_taken zero w h = refl
 first_taken (suc n) [] h = h
 first_taken (suc n) (c ∷ w) h = h
 
-number_none : (w : List ℕ) → is_digit (slice_index w 0) ≡ false → number_of w ≡ None
-unfolding number_of
+number_none : (w : List ℕ) → is_digit (slice_index w 0) ≡ false → parse_number w ≡ None
+unfolding parse_number
 number_none w h =
     elim (cases_Bool (length w == 1)) [
       | inl e ↦ rw (e, h) refl
@@ -132,15 +132,15 @@ time_none clock half h = rw (number_none (take (length clock - 2) clock) (first_
 said_none : (clock half letters weekday month day year : List ℕ) → is_digit (slice_index clock 0) ≡ false → parse_words clock half letters weekday month day year ≡ None
 unfolding parse_words
 said_none clock half letters weekday month day year h =
-    elim (cases_Bool (are_letters letters && is_some (place_of weekday_names weekday))) [ inl e ↦ rw (e, time_none clock half h) refl | inr e ↦ rw e refl ]
+    elim (cases_Bool (are_letters letters && is_some (find_name weekday_names weekday))) [ inl e ↦ rw (e, time_none clock half h) refl | inr e ↦ rw e refl ]
 
 written_none : (b : List ℕ) → is_digit (slice_index b 0) ≡ false → written_in b ≡ None
 unfolding written_in
 written_none b h = said_none (first_word b) _ _ _ _ _ _ (first_taken (position_or_len is_word_blank b) b h)
 
-pub no_local_first : (b : List ℕ) → is_digit (slice_index b 0) ≡ false → local_at b ≡ None
-unfolding local_at read_of
+pub no_local_first : (b : List ℕ) → is_digit (slice_index b 0) ≡ false → parse_local_line b ≡ None
+unfolding parse_local_line read_of
 no_local_first b h = rw (written_none b h) refl
 
-pub no_digit_no_local : (t : List ℕ) → HasNoDigit t → local_at (line_of t) ≡ None
+pub no_digit_no_local : (t : List ℕ) → HasNoDigit t → parse_local_line (line_of t) ≡ None
 no_digit_no_local t h = no_local_first (line_of t) (digit_at (line_of t) 0 (all_line (λ c. is_digit c ≡ false) t h))

@@ -10,13 +10,13 @@ use Rattle.desk_clock.specs.Abbreviations.{letters_of}
 use Rattle.desk_clock.specs.LocalTimes.{local_time, shown_at}
 use Rattle.desk_clock.specs.Names.{month_name, weekday_name, month_names, weekday_names}
 use Rattle.desk_clock.specs.Zones.{abbreviation_at}
-use Rattle.desk_clock.specs.LocalText.{one_or_two, clock_hour, half_day, short_of, local_line_of}
+use Rattle.desk_clock.specs.LocalText.{one_or_two, clock_hour, half_day, local_line_without_year, local_line_of}
 use Rattle.hazard_types.specs.Calendar.{two}
 use Rattle.hazard_types.specs.Digits.{four_digits}
 use Rattle.desk_clock.specs.LocalText.{line_of as local_text}
 use Rattle.desk_clock.proofs.RoundTrip.{reads_back}
 use Rattle.product_frame.specs.Text.{line_of, is_left_out}
-use Rattle.product_frame.specs.Parts.{local_at}
+use Rattle.product_frame.specs.Parts.{parse_local_line}
 use Rattle.product_frame.specs.LineRules.{IsOneLine}
 use Rattle.ugc_codes.proofs.Written.{all_both}
 use Rattle.product_frame.proofs.Runs.{line_whole}
@@ -71,8 +71,8 @@ weekdays_are = ((refl, (refl, (refl, tt))), ((refl, (refl, (refl, tt))), ((refl,
 blank_line : IsOneLine (codes " ")
 blank_line = (refl, tt)
 
-short_line : (a : Abbreviation) (shown : ℕ) → IsOneLine (short_of a shown)
-unfolding short_of
+short_line : (a : Abbreviation) (shown : ℕ) → IsOneLine (local_line_without_year a shown)
+unfolding local_line_without_year
 short_line a shown =
     let t = local_time shown in
     let a0 = one_or_two (clock_hour t.hour) in let a1 = a0 ++ two t.minute (codes " ") in let a2 = a1 ++ half_day t.hour in let a3 = a2 ++ codes " " in let a4 = a3 ++ letters_of a in
@@ -90,17 +90,17 @@ short_line a shown =
 
 -- the line without its last byte
 front_of : (a : Abbreviation) (shown : ℕ) → List ℕ
-front_of a shown = let y = (local_time shown).year in short_of a shown ++ (32 ∷ (48 + y / 1000) ∷ (48 + y / 100 % 10) ∷ (48 + y / 10 % 10) ∷ [])
+front_of a shown = let y = (local_time shown).year in local_line_without_year a shown ++ (32 ∷ (48 + y / 1000) ∷ (48 + y / 100 % 10) ∷ (48 + y / 10 % 10) ∷ [])
 
 front_line : (a : Abbreviation) (shown : ℕ) → IsOneLine (front_of a shown)
 unfolding front_of
 front_line a shown =
     let y = (local_time shown).year in
-    all_both NoEnd (short_of a shown) (32 ∷ (48 + y / 1000) ∷ (48 + y / 100 % 10) ∷ (48 + y / 10 % 10) ∷ []) (short_line a shown) (refl, (digit_no_end (y / 1000), (digit_no_end (y / 100 % 10), (digit_no_end (y / 10 % 10), tt))))
+    all_both NoEnd (local_line_without_year a shown) (32 ∷ (48 + y / 1000) ∷ (48 + y / 100 % 10) ∷ (48 + y / 10 % 10) ∷ []) (short_line a shown) (refl, (digit_no_end (y / 1000), (digit_no_end (y / 100 % 10), (digit_no_end (y / 10 % 10), tt))))
 
 text_is : (a : Abbreviation) (shown : ℕ) → local_text a shown ≡ front_of a shown ++ (48 + (local_time shown).year % 10) ∷ []
 unfolding local_text front_of
-text_is a shown = let y = (local_time shown).year in sym (append_assoc (short_of a shown) (32 ∷ (48 + y / 1000) ∷ (48 + y / 100 % 10) ∷ (48 + y / 10 % 10) ∷ []) ((48 + y % 10) ∷ []))
+text_is a shown = let y = (local_time shown).year in sym (append_assoc (local_line_without_year a shown) (32 ∷ (48 + y / 1000) ∷ (48 + y / 100 % 10) ∷ (48 + y / 10 % 10) ∷ []) ((48 + y % 10) ∷ []))
 
 pub digit_kept : (k : ℕ) → is_left_out (48 + k) ≡ false
 digit_kept k =
@@ -135,8 +135,8 @@ number_begins n le = elim (cases_Bool (nat_lt n 10)) [
   | inr e ↦ rw e (48 + n / 10, (48 + n % 10) ∷ [], refl, omega arith, omega arith)
 ]
 
-short_begins : (a : Abbreviation) (shown : ℕ) → BeginsWithDigit (short_of a shown)
-unfolding short_of
+short_begins : (a : Abbreviation) (shown : ℕ) → BeginsWithDigit (local_line_without_year a shown)
+unfolding local_line_without_year
 short_begins a shown =
     let t = local_time shown in
     begins_on _ (one_or_two t.day) (begins_on _ (codes " ") (begins_on _ (month_name t.month) (begins_on _ (codes " ") (begins_on _ (weekday_name (shown / 1440)) (begins_on _ (codes " ")
@@ -154,6 +154,6 @@ pub local_begins : (z : LocalZone) (m : ℕ) → BeginsWithDigit (local_line_of 
 unfolding local_line_of local_text
 local_begins z m = begins_on _ (32 ∷ four_digits (local_time (shown_at (abbreviation_at z m) m)).year) (short_begins (abbreviation_at z m) (shown_at (abbreviation_at z m) m))
 
-pub local_reads : (z : LocalZone) (m : ℕ) → m < 52596000 → local_at (local_line_of z m) ≡ Some m
-unfolding local_at
+pub local_reads : (z : LocalZone) (m : ℕ) → m < 52596000 → parse_local_line (local_line_of z m) ≡ Some m
+unfolding parse_local_line
 local_reads z m lt = rw (reads_back z m lt) refl

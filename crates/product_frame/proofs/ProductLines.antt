@@ -7,8 +7,8 @@ use Rattle.hazard_types.specs.Calendar.{is_digit}
 use Rattle.hazard_types.specs.Places.{is_capital}
 use Rattle.product_frame.specs.Text.{starts, starts_from, line_of, before, is_left_out, is_empty}
 use Rattle.hazard_types.specs.Characters.{is_name_byte}
-use Rattle.product_frame.specs.Parts.{is_bbb, heading_of, is_identifier, local_at}
-use Rattle.product_frame.specs.Frames.{line_at, heading_index, full_index, issue_in, product_in}
+use Rattle.product_frame.specs.Parts.{is_bbb, heading_of, is_identifier, parse_local_line}
+use Rattle.product_frame.specs.Frames.{line_at, heading_index, first_nonempty_index, find_issue_minute, product_in}
 use Rattle.product_frame.specs.Frame.{IsFrameIn, FrameOf}
 use Rattle.product_frame.specs.Grammar.{AreSegments}
 use Rattle.product_frame.specs.Layout.{ended, heading_text, segment_text, segments_text, block_text, layout_of}
@@ -28,7 +28,7 @@ use Rattle.product_frame.proofs.HeadingLines.{heading_laid}
 use Rattle.product_frame.proofs.SegmentLines.{BeginsNone, HeadsNone, IsLocal, local_begins_none, local_heads_none, AreSound, segments_stand, segments_heads_none, sound_from}
 
 abbrev pub LocalNone : List ℕ → Type 0
-LocalNone line = local_at line ≡ None
+LocalNone line = parse_local_line line ≡ None
 
 -- ---- the identifier
 
@@ -135,15 +135,15 @@ regroup e n o l x s =
     ∙ ap (λ (t : List ℕ). e ++ t) (append_assoc n (o ++ (l ++ x)) s ∙ ap (λ (t : List ℕ). n ++ t) (append_assoc o (l ++ x) s ∙ ap (λ (t : List ℕ). o ++ t) (append_assoc l x s)))
     ∙ sym (append_assoc e (n ++ o) (l ++ (x ++ s)) ∙ ap (λ (t : List ℕ). e ++ t) (append_assoc n o (l ++ (x ++ s))))
 
-issue_passed : (p places more : List ℕ) → AllByRecursion (λ s. LocalNone (line_at p s)) places → issue_in p (places ++ more) ≡ issue_in p more
+issue_passed : (p places more : List ℕ) → AllByRecursion (λ s. LocalNone (line_at p s)) places → find_issue_minute p (places ++ more) ≡ find_issue_minute p more
 issue_passed p [] more h = refl
 issue_passed p (s ∷ places) more h = rw h.0 (issue_passed p places more h.1)
 
-issue_here : (p more : List ℕ) (s issue : ℕ) → local_at (line_at p s) ≡ Some issue → issue_in p (s ∷ more) ≡ Some issue
+issue_here : (p more : List ℕ) (s issue : ℕ) → parse_local_line (line_at p s) ≡ Some issue → find_issue_minute p (s ∷ more) ≡ Some issue
 issue_here p more s issue h = rw h refl
 
 -- the first local line behind the identifier is that of the block
-issue_found : (p rest : List ℕ) (block : Block) (at issue : ℕ) → IsBlock block → local_at block.local ≡ Some issue → drop at p ≡ block_text block ++ rest → issue_in p (starting at (block_text block ++ rest)) ≡ Some issue
+issue_found : (p rest : List ℕ) (block : Block) (at issue : ℕ) → IsBlock block → parse_local_line block.local ≡ Some issue → drop at p ≡ block_text block ++ rest → find_issue_minute p (starting at (block_text block ++ rest)) ≡ Some issue
 issue_found p rest block at issue b reads h =
     let front = ended [] ++ (ended block.name ++ ended block.office_line) in
     let more = ended [] ++ rest in
@@ -151,8 +151,8 @@ issue_found p rest block at issue b reads h =
     let r = front_local_none block b p at (ended block.local ++ more) (h ∙ e) in
     let at2 = at + length front in
     let n = next_line p block.local more at2 b.local.line (behind p front (ended block.local ++ more) at (h ∙ e)) in
-    let line : local_at (line_at p at2) ≡ Some issue = ap local_at (n.1 ∙ b.local.whole) ∙ reads in
-    ap (λ (t : List ℕ). issue_in p (starting at t)) e ∙ ap (issue_in p) r.1 ∙ issue_passed p r.0 (starting at2 (ended block.local ++ more)) r.2 ∙ issue_here p (starts_from at2 (ended block.local ++ more)) at2 issue line
+    let line : parse_local_line (line_at p at2) ≡ Some issue = ap parse_local_line (n.1 ∙ b.local.whole) ∙ reads in
+    ap (λ (t : List ℕ). find_issue_minute p (starting at t)) e ∙ ap (find_issue_minute p) r.1 ∙ issue_passed p r.0 (starting at2 (ended block.local ++ more)) r.2 ∙ issue_here p (starts_from at2 (ended block.local ++ more)) at2 issue line
 
 -- ---- no later heading line
 
@@ -178,9 +178,9 @@ pub record IsProduct (f : Frame) (block : Block) (bodies : List Body) : Type 0 w
   pub rules : IsWritable f block bodies
   pub sound : AreSound f.segments bodies
   pub well : IsBlock block
-  pub reads : local_at block.local ≡ Some f.issue
+  pub reads : parse_local_line block.local ≡ Some f.issue
 
-full_here : (p more : List ℕ) (s : ℕ) → is_empty (line_at p s) ≡ false → full_index p 0 (s ∷ more) ≡ Some 0
+full_here : (p more : List ℕ) (s : ℕ) → is_empty (line_at p s) ≡ false → first_nonempty_index p 0 (s ∷ more) ≡ Some 0
 full_here p more s h = rw h refl
 
 begins_here : (p : List ℕ) (h : Heading) → heading_of (line_of p) ≡ Some h → heading_index p 0 (starts p) ≡ Some 0
@@ -218,10 +218,10 @@ laid_frame p f block bodies is whole =
     let alone : heading_index p 0 (starts_from 0 p) ≡ None = ap (heading_index p 0) next ∙ one_product p t1 at1 clear h1 in
     let frame : IsFrameIn p f = record {
       index = 0;
-      full = ap (full_index p 0) places ∙ full_here p (starting at2 t2) at1 (ap is_empty line ∙ id.some);
+      full = ap (first_nonempty_index p 0) places ∙ full_here p (starting at2 t2) at1 (ap is_empty line ∙ id.some);
       identifier = sym (ap (λ (xs : List ℕ). line_at p (slice_index xs 0)) places ∙ line);
       named = w.identifier;
-      issue = ap (λ (xs : List ℕ). issue_in p (drop 1 xs)) places ∙ issue_found p segments block at2 f.issue is.well is.reads h2;
+      issue = ap (λ (xs : List ℕ). find_issue_minute p (drop 1 xs)) places ∙ issue_found p segments block at2 f.issue is.well is.reads h2;
       agrees = w.near;
       segments = subst (λ (xs : List ℕ). AreSegments p (drop 1 xs) f.segments) (sym places) (segments_stand block.local is.well.local f.segments bodies is.sound p (block_text block) at2 (block_begins_none block is.well) h2);
     } in
@@ -283,7 +283,7 @@ written_product f block bodies w typed =
       rules = w;
       sound = sound_from f.segments bodies w.as_many (all_from IsSegmentWritten f.segments w.segments) (all_from ReadsBack f.segments typed) (all_from IsBody bodies w.each_body);
       well = record { name = w.name; office_line = w.office_line; local = local };
-      reads = ap local_at w.local ∙ local_reads w.zone f.issue w.minute;
+      reads = ap parse_local_line w.local ∙ local_reads w.zone f.issue w.minute;
     }
 
 pub written_frame : (p : List ℕ) (f : Frame) (block : Block) (bodies : List Body) → IsWritable f block bodies → All ReadsBack f.segments → p ≡ layout_of f block bodies → FrameOf p f

@@ -8,7 +8,7 @@ use Rattle.product_frame.specs.Text.{starts, starts_from}
 use Rattle.product_frame.specs.Parts.{heading_of, is_identifier}
 use Rattle.product_frame.specs.Nearness.{is_near}
 use Rattle.product_frame.proofs.Nearness.{near_decides}
-use Rattle.product_frame.specs.Frames.{line_at, heading_index, full_index, issue_in, product_in, or_fault, frame_after_identifier, named, frame_in, frame_from, frame_of}
+use Rattle.product_frame.specs.Frames.{line_at, heading_index, first_nonempty_index, find_issue_minute, product_in, or_fault, frame_after_identifier, named, frame_in, frame_from, read_first_frame}
 use Rattle.product_frame.specs.Walking.{begun, segments_of}
 use Rattle.product_frame.specs.Frame.{FrameOf}
 use Rattle.product_frame.specs.Faults.{IsIdentified, HasBadSegment, IsFaultIn, HasFaultyProduct, FrameFaultOf}
@@ -65,12 +65,12 @@ product_refused p h (BadUgc n) f = segment_refused p h (BadUgc n) f
 product_refused p h (BadVtec n) f = segment_refused p h (BadVtec n) f
 product_refused p h (NoSegmentEnd n) f = segment_refused p h (NoSegmentEnd n) f
 
-text_refused : (bytes : List ℕ) (x : FrameFault) → HasFaultyProduct bytes x → frame_of bytes ≡ Err x
-unfolding frame_of frame_from
+text_refused : (bytes : List ℕ) (x : FrameFault) → HasFaultyProduct bytes x → read_first_frame bytes ≡ Err x
+unfolding read_first_frame frame_from
 text_refused bytes x f = rw (f.1, f.3) (product_refused (product_in (drop (slice_index (starts bytes) f.0) bytes)) f.2 x f.4)
 
-pub fault_read : (bytes : List ℕ) (x : FrameFault) → FrameFaultOf bytes x → frame_of bytes ≡ Err x
-unfolding frame_of
+pub fault_read : (bytes : List ℕ) (x : FrameFault) → FrameFaultOf bytes x → read_first_frame bytes ≡ Err x
+unfolding read_first_frame
 fault_read bytes NoHeading f = rw f refl
 fault_read bytes NoIdentifier f = text_refused bytes NoIdentifier f
 fault_read bytes NoIssueTime f = text_refused bytes NoIssueTime f
@@ -111,7 +111,7 @@ behind_faulty : (p : List ℕ) (h : Heading) (t : List ℕ) (k : ℕ) (x : Frame
 unfolding frame_after_identifier
 behind_faulty p h t k x i e =
     let later = drop (k + 1) (starts_from 0 p) in
-    elim (or_fault_err (issue_in p later) NoIssueTime (λ issue. cond (is_near issue h.day) (segments_of p (k + 3) later >>= λ segments. Ok (frame_by h t issue segments)) (Err IssueDisagrees)) x e) [
+    elim (or_fault_err (find_issue_minute p later) NoIssueTime (λ issue. cond (is_near issue h.day) (segments_of p (k + 3) later >>= λ segments. Ok (frame_by h t issue segments)) (Err IssueDisagrees)) x e) [
       | inl a ↦ subst (IsFaultIn p h) a.1 (k, i, a.0)
       | inr a ↦ elim (cases_Bool (is_near a.0 h.day)) [
         | inl n ↦
@@ -124,7 +124,7 @@ behind_faulty p h t k x i e =
 product_faulty : (p : List ℕ) (h : Heading) (x : FrameFault) → frame_in p h ≡ Err x → IsFaultIn p h x
 unfolding frame_in
 product_faulty p h x e =
-    elim (or_fault_err (full_index p 0 (starts_from 0 p)) NoIdentifier (λ k. named p h (line_at p (slice_index (starts_from 0 p) k)) k) x e) [
+    elim (or_fault_err (first_nonempty_index p 0 (starts_from 0 p)) NoIdentifier (λ k. named p h (line_at p (slice_index (starts_from 0 p) k)) k) x e) [
       | inl a ↦ subst (IsFaultIn p h) a.1 (inl a.0)
       | inr a ↦ elim (cases_Bool (is_identifier (line_at p (slice_index (starts_from 0 p) a.0)))) [
         | inl n ↦ behind_faulty p h (line_at p (slice_index (starts_from 0 p) a.0)) a.0 x (record { full = a.1; named = n }) (rw n at a.2)
@@ -169,8 +169,8 @@ heading_there bytes k e =
     let same : r.0 ≡ k = omega arith in
     some_of _ (subst (λ (j : ℕ). is_some (heading_of (line_at bytes (slice_index (starts bytes) j))) ≡ true) same r.2)
 
-pub refused_is_faulty : (bytes : List ℕ) (x : FrameFault) → frame_of bytes ≡ Err x → FrameFaultOf bytes x
-unfolding frame_of frame_from
+pub refused_is_faulty : (bytes : List ℕ) (x : FrameFault) → read_first_frame bytes ≡ Err x → FrameFaultOf bytes x
+unfolding read_first_frame frame_from
 refused_is_faulty bytes x e =
     elim (or_fault_err (heading_index bytes 0 (starts bytes)) NoHeading (λ k. frame_from (drop (slice_index (starts bytes) k) bytes)) x e) [
       | inl a ↦ subst (FrameFaultOf bytes) a.1 a.0
@@ -182,9 +182,9 @@ refused_is_faulty bytes x e =
 -- ---- one of the two, with one value
 
 pub frame_or_fault : (bytes : List ℕ) → ((f : Frame) × FrameOf bytes f) ⊎ ((x : FrameFault) × FrameFaultOf bytes x)
-frame_or_fault bytes = by (frame_of bytes) refl
+frame_or_fault bytes = by (read_first_frame bytes) refl
   where
-    by : (r : Result Frame FrameFault) → frame_of bytes ≡ r → ((f : Frame) × FrameOf bytes f) ⊎ ((x : FrameFault) × FrameFaultOf bytes x)
+    by : (r : Result Frame FrameFault) → read_first_frame bytes ≡ r → ((f : Frame) × FrameOf bytes f) ⊎ ((x : FrameFault) × FrameFaultOf bytes x)
     by (Ok f) e = inl (f, read_is_frame bytes f e)
     by (Err x) e = inr (x, refused_is_faulty bytes x e)
 

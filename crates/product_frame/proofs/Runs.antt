@@ -5,7 +5,7 @@ use Rattle.std.specs.List.{All, AllByRecursion}
 use Rattle.std.proofs.lemmas.Bool.{cases_Bool, eqb-true}
 use Rattle.std.proofs.lemmas.List.{get_or_default}
 use Rattle.ugc_codes.proofs.Written.{all_both}
-use Rattle.product_frame.specs.Text.{starts_from, line_of, before, is_left_out, is_empty, ends_in}
+use Rattle.product_frame.specs.Text.{starts_from, line_of, before, is_left_out, is_empty, line_end_count}
 use Rattle.product_frame.specs.Frames.{line_at}
 use Rattle.product_frame.specs.Layout.{ended}
 use Rattle.product_frame.specs.LineRules.{IsOneLine, onto, lines_in, ends_behind}
@@ -68,10 +68,10 @@ starts_behind (c ∷ t) rest at =
       | inr h ↦ rw h ih
     ]
 
-pub as_many_ends : (t : List ℕ) (at : ℕ) → length (starts_from at t) ≡ ends_in t
+pub as_many_ends : (t : List ℕ) (at : ℕ) → length (starts_from at t) ≡ line_end_count t
 as_many_ends [] at = refl
 as_many_ends (c ∷ t) at = elim (cases_Bool (c == 10)) [
-  | inl h ↦ rw h (let ih : length (starts_from (at + 1) t) ≡ ends_in t = as_many_ends t (at + 1) in omega arith)
+  | inl h ↦ rw h (let ih : length (starts_from (at + 1) t) ≡ line_end_count t = as_many_ends t (at + 1) in omega arith)
   | inr h ↦ rw h (as_many_ends t (at + 1))
 ]
 

@@ -5,9 +5,9 @@ use Rattle.ugc_codes.specs.declared.read.UgcRead.{UgcRead}
 use Rattle.ugc_codes.proofs.Lines.{read_is_ugc}
 use Rattle.hazard_types.specs.Places.{Place}
 use Rattle.hazard_types.specs.declared.calendar.DayStamp.{DayStamp}
-use Rattle.product_frame.specs.Text.{line_of, is_empty, ends_in}
+use Rattle.product_frame.specs.Text.{line_of, is_empty, line_end_count}
 use Rattle.product_frame.specs.Parts.{begins, has_slash, is_end}
-use Rattle.product_frame.specs.Events.{pair_of}
+use Rattle.product_frame.specs.Events.{parse_pair}
 use Rattle.product_frame.specs.Frames.{line_at}
 use Rattle.product_frame.specs.Walking.{next_at, ahead}
 use Rattle.product_frame.specs.Grammar.{AreEvents, AreRest, HasNoSlash, IsSegment}
@@ -50,7 +50,7 @@ abbrev pub only_rest : (bytes lines : List ℕ) (s : ℕ) → has_slash (line_at
 only_rest bytes lines s no_slash r = record { ugc = []; events = []; behind = s ∷ lines; pairs = []; size = refl; whole = refl; spelled = refl; no_slash = no_slash; rest = r }
 
 -- one pair more
-abbrev pub pair_more : (bytes lines : List ℕ) (s : ℕ) (p : Pair) → pair_of (line_at bytes s) (next_at bytes lines) ≡ Some p → SegmentEnds bytes lines (ahead p.flood) → SegmentEnds bytes (s ∷ lines) 0
+abbrev pub pair_more : (bytes lines : List ℕ) (s : ℕ) (p : Pair) → parse_pair (line_at bytes s) (next_at bytes lines) ≡ Some p → SegmentEnds bytes lines (ahead p.flood) → SegmentEnds bytes (s ∷ lines) 0
 pair_more bytes lines s p is h =
     let b = one_pair bytes lines h.ugc h.events h.behind s p h.pairs is h.size h.whole h.spelled in
     record { ugc = []; events = b.events; behind = h.behind; pairs = p ∷ h.pairs; size = refl; whole = b.whole; spelled = b.spelled; no_slash = h.no_slash; rest = h.rest }
@@ -61,7 +61,7 @@ ugc_more bytes lines s k h = record { ugc = s ∷ h.ugc; events = h.events; behi
 
 -- a segment that begins here
 pub segment_here : (bytes lines : List ℕ) (s : ℕ) (u : UgcRead) → begins (line_at bytes s) ≡ true → ugc_of (drop s bytes) ≡ Ok u → is_empty (line_of (drop u.used (drop s bytes))) ≡ true →
-    (h : SegmentEnds bytes lines (ends_in (take u.used (drop s bytes)))) → IsSegment bytes (s ∷ lines) (made u.zones u.expiry h.pairs) h.rest.later
+    (h : SegmentEnds bytes lines (line_end_count (take u.used (drop s bytes)))) → IsSegment bytes (s ∷ lines) (made u.zones u.expiry h.pairs) h.rest.later
 segment_here bytes lines s u b read fills h =
     let r = h.rest in
     record { outside = []; start = s; ugc = h.ugc; events = h.events; others = r.others; end = r.end; used = u.used; whole = ap (λ (l : List ℕ). s ∷ l) h.whole ∙ ap (λ (l : List ℕ). s ∷ (h.ugc ++ (h.events ++ l))) r.whole; passed = tt; begun = b; zones = read_is_ugc (drop s bytes) u read; fills = fills; more = h.size; pairs = h.spelled; behind = subst (HasNoSlash bytes) r.whole h.no_slash; rest = r.rest; ended = r.ended }

@@ -9,7 +9,7 @@ use Rattle.ugc_codes.specs.Written.{ugc_text}
 use Rattle.hazard_types.specs.declared.line.Flood.{Flood}
 use Rattle.vtec_string.specs.Columns.{IsVtec, vtec_text}
 use Rattle.hvtec_string.specs.Columns.{IsHvtec, hvtec_text}
-use Rattle.product_frame.specs.Text.{starts_from, line_of, before, is_left_out, is_empty, ends_in}
+use Rattle.product_frame.specs.Text.{starts_from, line_of, before, is_left_out, is_empty, line_end_count}
 use Rattle.product_frame.specs.Parts.{heading_of, begins, has_slash, is_end}
 use Rattle.product_frame.specs.Frames.{line_at}
 use Rattle.product_frame.specs.Grammar.{AreOutside, HasFlood, AreEvents, HasNoSlash, IsSegment, AreSegments}
@@ -240,7 +240,7 @@ stands p front local g body at later run l s h =
         begun = ap (λ (x : List ℕ). begins (line_of x)) text ∙ ugc_begins (ugc ++ 10 ∷ r1) g.zones g.expiry (length ugc) (back (10 ∷ r1));
         zones = subst (λ (x : List ℕ). IsUgc x g.zones g.expiry (length ugc)) (sym text) (back (10 ∷ r1));
         fills = ap (λ (x : List ℕ). is_empty (line_of (drop (length ugc) x))) text ∙ ap (λ (x : List ℕ). is_empty (line_of x)) (drop_at ugc (10 ∷ r1) (length ugc) refl);
-        more = as_many_ends ugc at1 ∙ sym (ap (λ (x : List ℕ). ends_in (take (length ugc) x)) text ∙ ap ends_in (take_at ugc (10 ∷ r1) (length ugc) refl));
+        more = as_many_ends ugc at1 ∙ sym (ap (λ (x : List ℕ). line_end_count (take (length ugc) x)) text ∙ ap line_end_count (take_at ugc (10 ∷ r1) (length ugc) refl));
         pairs = e.2;
         behind = subst (HasNoSlash p) tail slash;
         rest = o.2;

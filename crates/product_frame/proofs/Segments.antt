@@ -5,7 +5,7 @@ use Rattle.hazard_types.specs.Places.{Place}
 use Rattle.hazard_types.specs.declared.calendar.DayStamp.{DayStamp}
 use Rattle.ugc_codes.specs.Grammar.{IsUgc}
 use Rattle.ugc_codes.proofs.Lines.{ugc_is_read}
-use Rattle.product_frame.specs.Text.{line_of, is_empty, ends_in}
+use Rattle.product_frame.specs.Text.{line_of, is_empty, line_end_count}
 use Rattle.product_frame.specs.Parts.{begins, has_slash, is_end}
 use Rattle.hazard_types.specs.declared.line.Flood.{Flood}
 use Rattle.hvtec_string.specs.Columns.{hvtec_of}
@@ -13,7 +13,7 @@ use Rattle.hvtec_string.proofs.Laying.{hvtec_hit}
 use Rattle.product_frame.proofs.Events.{vtec_has_slash, pair_hit, not_both, no_slash_no_hvtec}
 use Rattle.product_frame.specs.declared.frame.Pair.{Pair}
 use Rattle.product_frame.specs.Frames.{line_at}
-use Rattle.product_frame.specs.Walking.{at_outside, next_at, ahead, step, walk}
+use Rattle.product_frame.specs.Walking.{take_line_outside, next_at, ahead, step, walk}
 use Rattle.product_frame.specs.Grammar.{AreOutside, HasFlood, IsPair, AreEvents, LacksFlood, AreRest, HasNoSlash, IsSegment, AreSegments}
 use Rattle.product_frame.specs.declared.frame.FrameSegment.{FrameSegment}
 use Rattle.product_frame.specs.declared.walk.Walk.{Walk}
@@ -29,7 +29,7 @@ GoesOn bytes w number lines w' lines' = (number' : ℕ) × (walk bytes w number 
 
 pub outside_passed : (bytes outside more : List ℕ) (gs : List FrameSegment) (zs : List Place) (d : DayStamp) (ps : List Pair) (first number : ℕ) → AreOutside bytes outside →
     GoesOn bytes (state gs zs d ps first 0 Outside) number (outside ++ more) (state gs zs d ps first 0 Outside) more
-unfolding step at_outside
+unfolding step take_line_outside
 outside_passed bytes [] more gs zs d ps first number h = (number, refl, refl)
 outside_passed bytes (s ∷ outside) more gs zs d ps first number h =
     let later = outside_passed bytes outside more gs zs d ps first (number + 1) h.1 in
@@ -116,8 +116,8 @@ behind_passed bytes (s ∷ others) end more gs zs d ps first number no_slash h e
 
 pub begin_passed : (bytes more : List ℕ) (start used : ℕ) (zones : List Place) (expiry : DayStamp) (gs : List FrameSegment) (zs : List Place) (d : DayStamp) (ps : List Pair) (first number : ℕ) →
     begins (line_at bytes start) ≡ true → IsUgc (drop start bytes) zones expiry used → is_empty (line_of (drop used (drop start bytes))) ≡ true →
-    GoesOn bytes (state gs zs d ps first 0 Outside) number (start ∷ more) (state gs zones expiry [] number (ends_in (take used (drop start bytes))) Pairs) more
-unfolding step at_outside
+    GoesOn bytes (state gs zs d ps first 0 Outside) number (start ∷ more) (state gs zones expiry [] number (line_end_count (take used (drop start bytes))) Pairs) more
+unfolding step take_line_outside
 begin_passed bytes more start used zones expiry gs zs d ps first number b u fills = (number + 1, rw (b, ugc_is_read (drop start bytes) zones expiry used u, fills) refl, omega arith)
 
 pub segment_passed : (bytes lines later : List ℕ) (g : FrameSegment) → IsSegment bytes lines g later → (gs : List FrameSegment) (zs : List Place) (d : DayStamp) (ps : List Pair) (first number : ℕ) →
@@ -125,7 +125,7 @@ pub segment_passed : (bytes lines later : List ℕ) (g : FrameSegment) → IsSeg
 segment_passed bytes lines later g is gs zs d ps first number =
     let a = outside_passed bytes is.outside (is.start ∷ (is.ugc ++ (is.events ++ (is.others ++ is.end ∷ later)))) gs zs d ps first number is.passed in
     let b = begin_passed bytes (is.ugc ++ (is.events ++ (is.others ++ is.end ∷ later))) is.start is.used g.zones g.expiry gs zs d ps first a.0 is.begun is.zones is.fills in
-    let c = ugc_passed bytes is.ugc (is.events ++ (is.others ++ is.end ∷ later)) gs g.zones g.expiry [] a.0 (ends_in (take is.used (drop is.start bytes))) b.0 Pairs is.more in
+    let c = ugc_passed bytes is.ugc (is.events ++ (is.others ++ is.end ∷ later)) gs g.zones g.expiry [] a.0 (line_end_count (take is.used (drop is.start bytes))) b.0 Pairs is.more in
     let e = events_passed bytes is.events (is.others ++ is.end ∷ later) g.pairs gs g.zones g.expiry [] a.0 c.0 is.pairs (λ none. no_slash_no_hvtec bytes (is.others ++ is.end ∷ later) is.behind) in
     let f = behind_passed bytes is.others is.end later gs g.zones g.expiry g.pairs a.0 e.0 is.behind is.rest is.ended in
     let size = ap (λ (l : List ℕ). number + length l) (sym is.whole) in

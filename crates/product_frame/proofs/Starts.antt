@@ -1,7 +1,7 @@
 -- The lines of a text stand behind one another.
 use Rattle.std.proofs.Common.{◌≡◌, ℕ, zero, suc, ◌+◌, ◌≤◌, ◌==◌, List, [], ◌∷◌, length, take, drop, refl, ap, sym, ◌∙◌, arith, inl, inr, drop-drop}
 use Rattle.std.proofs.lemmas.Bool.{cases_Bool}
-use Rattle.product_frame.specs.Text.{starts_from, ends_in}
+use Rattle.product_frame.specs.Text.{starts_from, line_end_count}
 use Rattle.product_frame.proofs.Runs.{as_many_ends}
 
 -- behind each of these places begin the lines of the text from there on
@@ -27,18 +27,18 @@ some_starts bytes (s ∷ lines) (suc n) h = some_starts bytes lines n h.1
 pub later_starts : (bytes : List ℕ) (n : ℕ) → AreStarts bytes (drop n (starts_from 0 bytes))
 later_starts bytes n = some_starts bytes (starts_from 0 bytes) n (starts_stand bytes bytes 0 refl)
 
-fewer_ends : (bytes : List ℕ) (n : ℕ) → ends_in (take n bytes) ≤ ends_in bytes
+fewer_ends : (bytes : List ℕ) (n : ℕ) → line_end_count (take n bytes) ≤ line_end_count bytes
 fewer_ends bytes zero = omega arith
 fewer_ends [] (suc n) = omega arith
 fewer_ends (c ∷ bytes) (suc n) =
-    let fewer : ends_in (take n bytes) ≤ ends_in bytes = fewer_ends bytes n in
+    let fewer : line_end_count (take n bytes) ≤ line_end_count bytes = fewer_ends bytes n in
     elim (cases_Bool (c == 10)) [
       | inl e ↦ rw e (omega (arith, fewer))
       | inr e ↦ rw e fewer
     ]
 
 -- a front of what stands from a line on ends no more lines than there are behind it
-pub ends_fit : (bytes lines : List ℕ) (s n : ℕ) → lines ≡ starts_from s (drop s bytes) → ends_in (take n (drop s bytes)) ≤ length lines
+pub ends_fit : (bytes lines : List ℕ) (s n : ℕ) → lines ≡ starts_from s (drop s bytes) → line_end_count (take n (drop s bytes)) ≤ length lines
 ends_fit bytes lines s n h =
-    let size : length lines ≡ ends_in (drop s bytes) = ap length h ∙ as_many_ends (drop s bytes) s in
+    let size : length lines ≡ line_end_count (drop s bytes) = ap length h ∙ as_many_ends (drop s bytes) s in
     omega (arith, fewer_ends (drop s bytes) n)

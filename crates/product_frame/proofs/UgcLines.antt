@@ -13,7 +13,7 @@ use Rattle.ugc_codes.specs.declared.span.Span.{Span}
 use Rattle.ugc_codes.specs.Grammar.{IsSpan, IsUgc, AreGroups, HasCode, last_code, run_end, full_text, numbered, add, add_run, add_spans}
 use Rattle.hazard_types.specs.Names.{kind_code, zone_text}
 use Rattle.hazard_types.specs.Digits.{three_digits, day_text}
-use Rattle.ugc_codes.specs.Written.{are_alike, goes_on, single, pieces, groups_from, code_part, own_text, passes, put_text, put_column, lay, ugc_text}
+use Rattle.ugc_codes.specs.Written.{are_alike, continues_span, single, pieces, groups_from, code_part, own_text, passes, put_text, put_column, lay, ugc_text}
 use Rattle.hazard_types.specs.Characters.{is_blank}
 use Rattle.product_frame.specs.Text.{line_of, before, is_left_out, is_empty}
 use Rattle.product_frame.specs.Parts.{begins}
@@ -102,7 +102,7 @@ pieces_clear s h = elim (cases_Bool (s.last == s.first.number + 1)) [ inl e ↦ 
 
 groups_clear : (s : Span) (ps : List Place) → StateClear s → AllByRecursion PlaceClear ps → AllByRecursion StateClear (groups_from s ps)
 groups_clear s [] h k = pieces_clear s h
-groups_clear s (p ∷ ps) h k = elim (cases_Bool (goes_on s p)) [
+groups_clear s (p ∷ ps) h k = elim (cases_Bool (continues_span s p)) [
   | inl e ↦ rw e (groups_clear (record { first = s.first; last = p.number }) ps h k.1)
   | inr e ↦ rw e (all_both StateClear (pieces s) (groups_from (single p) ps) (pieces_clear s h) (groups_clear (single p) ps k.0 k.1))
 ]

@@ -7,7 +7,7 @@ use Rattle.product_frame.specs.Text.{starts, starts_from, line_of}
 use Rattle.product_frame.specs.Parts.{heading_of, is_identifier}
 use Rattle.product_frame.specs.Nearness.{is_near}
 use Rattle.product_frame.proofs.Nearness.{near_decides}
-use Rattle.product_frame.specs.Frames.{line_at, heading_index, full_index, issue_in, product_in, or_fault, frame_after_identifier, named, frame_in, frame_from, frame_of}
+use Rattle.product_frame.specs.Frames.{line_at, heading_index, first_nonempty_index, find_issue_minute, product_in, or_fault, frame_after_identifier, named, frame_in, frame_from, read_first_frame}
 use Rattle.product_frame.specs.Walking.{begun, segments_of}
 use Rattle.product_frame.specs.Frame.{IsFrameIn, FrameOf}
 use Rattle.product_frame.specs.declared.frame.Heading.{Heading}
@@ -18,8 +18,8 @@ use Rattle.product_frame.specs.declared.frame.FrameFault.TheVariants.{NoHeading,
 use Rattle.product_frame.proofs.Segments.{segments_walked}
 use Rattle.product_frame.proofs.Found.{walked_segments}
 
-pub frame_read : (bytes : List ℕ) (f : Frame) → FrameOf bytes f → frame_of bytes ≡ Ok f
-unfolding frame_of frame_from frame_in frame_after_identifier
+pub frame_read : (bytes : List ℕ) (f : Frame) → FrameOf bytes f → read_first_frame bytes ≡ Ok f
+unfolding read_first_frame frame_from frame_in frame_after_identifier
 frame_read bytes f is =
     let p = product_in (drop (slice_index (starts bytes) is.index) bytes) in
     let i = is.frame in
@@ -46,12 +46,12 @@ abbrev pub frame_by : Heading → List ℕ → ℕ → List FrameSegment → Fra
 frame_by h t m gs = record { heading = h; identifier = t; issue = m; segments = gs }
 
 behind_is : (p : List ℕ) (h : Heading) (t : List ℕ) (k : ℕ) (f : Frame) → frame_after_identifier p h t k ≡ Ok f →
-    (issue : ℕ) × (segments : List FrameSegment) × (issue_in p (drop (k + 1) (starts_from 0 p)) ≡ Some issue) × (is_near issue h.day ≡ true) × (segments_of p (k + 3) (drop (k + 1) (starts_from 0 p)) ≡ Ok segments) × (frame_by h t issue segments ≡ f)
+    (issue : ℕ) × (segments : List FrameSegment) × (find_issue_minute p (drop (k + 1) (starts_from 0 p)) ≡ Some issue) × (is_near issue h.day ≡ true) × (segments_of p (k + 3) (drop (k + 1) (starts_from 0 p)) ≡ Ok segments) × (frame_by h t issue segments ≡ f)
 unfolding frame_after_identifier
 behind_is p h t k f e =
     let later = drop (k + 1) (starts_from 0 p) in
     let rest = λ (issue : ℕ). cond (is_near issue h.day) (segments_of p (k + 3) (drop (k + 1) (starts_from 0 p)) >>= λ segments. Ok (frame_by h t issue segments)) (Err IssueDisagrees) in
-    let a = or_fault_ok (issue_in p later) NoIssueTime rest f e in
+    let a = or_fault_ok (find_issue_minute p later) NoIssueTime rest f e in
     elim (cases_Bool (is_near a.0 h.day)) [
       | inl n ↦
           let b = bind_ok (segments_of p (k + 3) later) (λ segments. Ok (frame_by h t a.0 segments)) f (rw n at a.2) in
@@ -62,7 +62,7 @@ behind_is p h t k f e =
 frame_in_is : (p : List ℕ) (h : Heading) (f : Frame) → frame_in p h ≡ Ok f → IsFrameIn p f × (h ≡ f.heading)
 unfolding frame_in
 frame_in_is p h f e =
-    let b = or_fault_ok (full_index p 0 (starts_from 0 p)) NoIdentifier (λ k. named p h (line_at p (slice_index (starts_from 0 p) k)) k) f e in
+    let b = or_fault_ok (first_nonempty_index p 0 (starts_from 0 p)) NoIdentifier (λ k. named p h (line_at p (slice_index (starts_from 0 p) k)) k) f e in
     let t = line_at p (slice_index (starts_from 0 p) b.0) in
     elim (cases_Bool (is_identifier t)) [
       | inl n ↦
@@ -81,8 +81,8 @@ frame_in_is p h f e =
       | inr n ↦ absurd (never NoIdentifier f (rw n at b.2))
     ]
 
-pub read_is_frame : (bytes : List ℕ) (f : Frame) → frame_of bytes ≡ Ok f → FrameOf bytes f
-unfolding frame_of frame_from
+pub read_is_frame : (bytes : List ℕ) (f : Frame) → read_first_frame bytes ≡ Ok f → FrameOf bytes f
+unfolding read_first_frame frame_from
 read_is_frame bytes f e =
     let a = or_fault_ok (heading_index bytes 0 (starts bytes)) NoHeading (λ k. frame_from (drop (slice_index (starts bytes) k) bytes)) f e in
     let rest = drop (slice_index (starts bytes) a.0) bytes in

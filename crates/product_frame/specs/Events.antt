@@ -11,5 +11,5 @@ abbrev pub with_flood : Option Flood → Vtec → Pair
 with_flood flood v = record { vtec = v; flood = flood }
 
 -- the values of the line, and those of the next one where it is an H-VTEC line
-unfoldable pub pair_of : List ℕ → List ℕ → Option Pair
-pair_of line next = option_map (with_flood (hvtec_of next)) (vtec_of line)
+unfoldable pub parse_pair : List ℕ → List ℕ → Option Pair
+parse_pair line next = option_map (with_flood (hvtec_of next)) (vtec_of line)

@@ -4,13 +4,13 @@ use Rattle.desk_clock.specs.DayStamps.{IsNear}
 use Rattle.hazard_types.specs.Places.{Place}
 use Rattle.hazard_types.specs.declared.calendar.DayStamp.{DayStamp}
 use Rattle.ugc_codes.specs.Grammar.{IsUgc}
-use Rattle.product_frame.specs.Text.{starts, starts_from, line_of, is_empty, ends_in}
+use Rattle.product_frame.specs.Text.{starts, starts_from, line_of, is_empty, line_end_count}
 use Rattle.product_frame.specs.Parts.{begins, has_slash, heading_of, is_identifier}
 use Rattle.hazard_types.specs.declared.line.Vtec.{Vtec}
 use Rattle.hazard_types.specs.declared.line.Flood.{Flood}
 use Rattle.vtec_string.specs.Columns.{IsVtec}
 use Rattle.hvtec_string.specs.Columns.{IsHvtec}
-use Rattle.product_frame.specs.Frames.{line_at, heading_index, full_index, issue_in, product_in}
+use Rattle.product_frame.specs.Frames.{line_at, heading_index, first_nonempty_index, find_issue_minute, product_in}
 use Rattle.product_frame.specs.Grammar.{AreOutside, AreEvents, LacksFlood, AreRest, HasNoSlash, IsSegment}
 use Rattle.product_frame.specs.declared.frame.Heading.{Heading}
 use Rattle.product_frame.specs.declared.frame.Pair.{Pair}
@@ -34,7 +34,7 @@ pub record Opens (rest : List ℕ) (ends : ℕ) : Type 0 where
   pub used : ℕ
   pub ugc : IsUgc rest zones expiry used
   pub fills : is_empty (line_of (drop used rest)) ≡ true
-  pub ends_are : ends ≡ ends_in (take used rest)
+  pub ends_are : ends ≡ line_end_count (take used rest)
 
 -- behind a UGC text of so many line ends stand pairs, and then a line that begins with / and is neither a P-VTEC line nor the H-VTEC line of the pair before it; from it on these lines are left
 pub record StopsAtVtec (bytes lines : List ℕ) (ends : ℕ) (left : List ℕ) : Type 0 where
@@ -88,13 +88,13 @@ pub record IsFirstFault (bytes lines : List ℕ) (total : ℕ) (x : FrameFault) 
 
 -- the identifier's line is this one of those behind the heading
 pub record IsIdentified (p : List ℕ) (index : ℕ) : Type 0 where
-  pub full : full_index p 0 (starts_from 0 p) ≡ Some index
+  pub full : first_nonempty_index p 0 (starts_from 0 p) ≡ Some index
   pub named : is_identifier (line_at p (slice_index (starts_from 0 p) index)) ≡ true
 
 -- identifier and issue minute are there
 pub record IsIssued (p : List ℕ) (index issue : ℕ) : Type 0 where
   pub identified : IsIdentified p index
-  pub minute : issue_in p (drop (index + 1) (starts_from 0 p)) ≡ Some issue
+  pub minute : find_issue_minute p (drop (index + 1) (starts_from 0 p)) ≡ Some issue
 
 -- the heading's day stamp agrees, and a segment is faulty; the identifier's index is 0 on line 2
 abbrev pub HasBadSegment : List ℕ → Heading → FrameFault → Type 0
@@ -103,8 +103,8 @@ HasBadSegment p h x = (index : ℕ) × (issue : ℕ) × IsIssued p index issue �
 -- the first fault of a product with this heading
 abbrev pub IsFaultIn : List ℕ → Heading → FrameFault → Type 0
 IsFaultIn p h NoHeading = ⊥
-IsFaultIn p h NoIdentifier = (full_index p 0 (starts_from 0 p) ≡ None) ⊎ ((index : ℕ) × (full_index p 0 (starts_from 0 p) ≡ Some index) × (is_identifier (line_at p (slice_index (starts_from 0 p) index)) ≡ false))
-IsFaultIn p h NoIssueTime = (index : ℕ) × IsIdentified p index × (issue_in p (drop (index + 1) (starts_from 0 p)) ≡ None)
+IsFaultIn p h NoIdentifier = (first_nonempty_index p 0 (starts_from 0 p) ≡ None) ⊎ ((index : ℕ) × (first_nonempty_index p 0 (starts_from 0 p) ≡ Some index) × (is_identifier (line_at p (slice_index (starts_from 0 p) index)) ≡ false))
+IsFaultIn p h NoIssueTime = (index : ℕ) × IsIdentified p index × (find_issue_minute p (drop (index + 1) (starts_from 0 p)) ≡ None)
 IsFaultIn p h IssueDisagrees = (index : ℕ) × (issue : ℕ) × IsIssued p index issue × (IsNear issue h.day → ⊥)
 IsFaultIn p h (BadUgc n) = HasBadSegment p h (BadUgc n)
 IsFaultIn p h (BadVtec n) = HasBadSegment p h (BadVtec n)

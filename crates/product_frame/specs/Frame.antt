@@ -3,17 +3,17 @@ use Rattle.std.specs.Prelude.{◌≡◌, ℕ, ◌+◌, true, List, slice_index, 
 use Rattle.product_frame.specs.Text.{starts, starts_from}
 use Rattle.desk_clock.specs.DayStamps.{IsNear}
 use Rattle.product_frame.specs.Parts.{heading_of, is_identifier}
-use Rattle.product_frame.specs.Frames.{line_at, heading_index, full_index, issue_in, product_in}
+use Rattle.product_frame.specs.Frames.{line_at, heading_index, first_nonempty_index, find_issue_minute, product_in}
 use Rattle.product_frame.specs.Grammar.{AreSegments}
 use Rattle.product_frame.specs.declared.frame.Frame.{Frame}
 
 -- what a product says behind its heading
 pub record IsFrameIn (p : List ℕ) (f : Frame) : Type 0 where
   pub index : ℕ
-  pub full : full_index p 0 (starts_from 0 p) ≡ Some index
+  pub full : first_nonempty_index p 0 (starts_from 0 p) ≡ Some index
   pub identifier : f.identifier ≡ line_at p (slice_index (starts_from 0 p) index)
   pub named : is_identifier f.identifier ≡ true
-  pub issue : issue_in p (drop (index + 1) (starts_from 0 p)) ≡ Some f.issue
+  pub issue : find_issue_minute p (drop (index + 1) (starts_from 0 p)) ≡ Some f.issue
   pub agrees : IsNear f.issue f.heading.day
   pub segments : AreSegments p (drop (index + 1) (starts_from 0 p)) f.segments
 

@@ -2,7 +2,7 @@
 use Rattle.std.specs.Prelude.{◌≡◌, ℕ, true, false, List, [], ◌∷◌, ◌++◌, length, take, drop, Option, Some, None}
 use Rattle.std.specs.List.{AllByRecursion}
 use Rattle.ugc_codes.specs.Grammar.{IsUgc}
-use Rattle.product_frame.specs.Text.{line_of, is_empty, ends_in}
+use Rattle.product_frame.specs.Text.{line_of, is_empty, line_end_count}
 use Rattle.product_frame.specs.Parts.{begins, has_slash, is_end}
 use Rattle.hazard_types.specs.declared.line.Flood.{Flood}
 use Rattle.vtec_string.specs.Columns.{IsVtec}
@@ -65,7 +65,7 @@ pub record IsSegment (bytes lines : List ℕ) (g : FrameSegment) (later : List �
   pub begun : begins (line_at bytes start) ≡ true
   pub zones : IsUgc (drop start bytes) g.zones g.expiry used
   pub fills : is_empty (line_of (drop used (drop start bytes))) ≡ true
-  pub more : length ugc ≡ ends_in (take used (drop start bytes))
+  pub more : length ugc ≡ line_end_count (take used (drop start bytes))
   pub pairs : AreEvents bytes events g.pairs
   pub behind : HasNoSlash bytes (others ++ end ∷ later)
   pub rest : AreRest bytes others

@@ -75,5 +75,5 @@ minute_read (Ok m) = Some m
 minute_read (Err f) = None
 
 -- the minute that a line reads as, if it is a local line
-unfoldable pub local_at : List ℕ → Option ℕ
-local_at line = minute_read (read_of line)
+unfoldable pub parse_local_line : List ℕ → Option ℕ
+parse_local_line line = minute_read (read_of line)

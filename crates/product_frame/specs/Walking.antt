@@ -6,10 +6,10 @@ use Rattle.ugc_codes.specs.declared.read.UgcRead.{UgcRead}
 use Rattle.ugc_codes.specs.declared.read.UgcFault.{UgcFault}
 use Rattle.hazard_types.specs.declared.or.Or.{Or}
 use Rattle.hazard_types.specs.declared.or.Or.TheVariants.{No, OutOfMemory}
-use Rattle.product_frame.specs.Text.{line_of, is_empty, ends_in}
+use Rattle.product_frame.specs.Text.{line_of, is_empty, line_end_count}
 use Rattle.product_frame.specs.Parts.{begins, has_slash, is_end}
 use Rattle.hazard_types.specs.declared.line.Flood.{Flood}
-use Rattle.product_frame.specs.Events.{pair_of}
+use Rattle.product_frame.specs.Events.{parse_pair}
 use Rattle.product_frame.specs.declared.frame.Pair.{Pair}
 use Rattle.product_frame.specs.declared.frame.FrameSegment.{FrameSegment}
 use Rattle.product_frame.specs.declared.frame.FrameFault.{FrameFault}
@@ -22,15 +22,15 @@ use Rattle.product_frame.specs.declared.walk.Stage.TheVariants.{Outside, Pairs, 
 abbrev pub opened : Walk → ℕ → List ℕ → UgcRead → Result Walk FrameFault
 opened w number rest u =
     if is_empty (line_of (drop u.used rest))
-    then Ok (record { segments = w.segments; zones = u.zones; expiry = u.expiry; pairs = []; first = number; left = ends_in (take u.used rest); stage = Pairs })
+    then Ok (record { segments = w.segments; zones = u.zones; expiry = u.expiry; pairs = []; first = number; left = line_end_count (take u.used rest); stage = Pairs })
     else Err (BadUgc number)
 
 abbrev pub open_by : Walk → ℕ → List ℕ → Result UgcRead UgcFault → Result Walk FrameFault
 open_by w number rest (Ok u) = opened w number rest u
 open_by w number rest (Err f) = Err (BadUgc number)
 
-unfoldable pub at_outside : Walk → ℕ → List ℕ → Result Walk FrameFault
-at_outside w number rest = if begins (line_of rest) then open_by w number rest (ugc_of rest) else Ok w
+unfoldable pub take_line_outside : Walk → ℕ → List ℕ → Result Walk FrameFault
+take_line_outside w number rest = if begins (line_of rest) then open_by w number rest (ugc_of rest) else Ok w
 
 abbrev pub staged : Walk → Stage → Walk
 staged w s = record { segments = w.segments; zones = w.zones; expiry = w.expiry; pairs = w.pairs; first = w.first; left = w.left; stage = s }
@@ -38,8 +38,8 @@ staged w s = record { segments = w.segments; zones = w.zones; expiry = w.expiry;
 abbrev pub closed : Walk → Walk
 closed w = record { segments = w.segments ++ record { zones = w.zones; expiry = w.expiry; pairs = w.pairs } ∷ []; zones = []; expiry = w.expiry; pairs = []; first = w.first; left = w.left; stage = Outside }
 
-abbrev pub at_rest : Walk → List ℕ → Result Walk FrameFault
-at_rest w line = if is_end line then Ok (closed w) else Ok (staged w Rest)
+abbrev pub take_line_at_rest : Walk → List ℕ → Result Walk FrameFault
+take_line_at_rest w line = if is_end line then Ok (closed w) else Ok (staged w Rest)
 
 -- the first of these lines, if there is one
 abbrev pub next_at : List ℕ → List ℕ → List ℕ
@@ -58,13 +58,13 @@ abbrev pub paired : Walk → ℕ → Option Pair → Result Walk FrameFault
 paired w number None = Err (BadVtec number)
 paired w number (Some p) = Ok (with_pair w p)
 
-abbrev pub at_pairs : Walk → ℕ → List ℕ → List ℕ → Result Walk FrameFault
-at_pairs w number line next = if has_slash line then paired w number (pair_of line next) else at_rest w line
+abbrev pub take_line_at_pairs : Walk → ℕ → List ℕ → List ℕ → Result Walk FrameFault
+take_line_at_pairs w number line next = if has_slash line then paired w number (parse_pair line next) else take_line_at_rest w line
 
 abbrev pub by_stage : Walk → ℕ → List ℕ → List ℕ → Stage → Result Walk FrameFault
-by_stage w number rest next Outside = at_outside w number rest
-by_stage w number rest next Pairs = at_pairs w number (line_of rest) next
-by_stage w number rest next Rest = at_rest w (line_of rest)
+by_stage w number rest next Outside = take_line_outside w number rest
+by_stage w number rest next Pairs = take_line_at_pairs w number (line_of rest) next
+by_stage w number rest next Rest = take_line_at_rest w (line_of rest)
 
 abbrev pub skipped : Walk → Walk
 skipped w = record { segments = w.segments; zones = w.zones; expiry = w.expiry; pairs = w.pairs; first = w.first; left = w.left - 1; stage = w.stage }

@@ -1,27 +1,28 @@
 //! Reads frames.
-ghost use Rattle.std.specs.Prelude.{◌≡◌, ◌⊎◌, ℕ, List as Seq, ◌≤◌, ◌<◌, ◌^◌, ◌+◌, length, [], ◌∷◌, drop, IfOk, IfSome, OnOk, is_some, take};
+ghost use Rattle.std.specs.Prelude.{◌≡◌, ◌⊎◌, ℕ, List as Seq, ◌≤◌, ◌<◌, ◌^◌, ◌+◌, length, [], IfOk, IfSome, OnOk, is_some, take};
 ghost use Rattle.std.specs.List.{All};
 ghost use Rattle.hazard_types.specs.Given.{Gives};
 ghost use Rattle.product_frame.specs.Text.{starts, starts_from, line_of};
-ghost use Rattle.product_frame.specs.Parts.{is_front, may_be_heading, is_bbb, heading_by, heading_of, is_identifier, begins_by_digit, local_at};
+ghost use Rattle.product_frame.specs.Parts.{is_front, may_be_heading, is_bbb, heading_by, heading_of, is_identifier, begins_by_digit, parse_local_line};
 ghost use Rattle.product_frame.specs.Nearness.{is_near};
 ghost use Rattle.std.specs.Prelude.{Ok};
 ghost use Rattle.product_frame.specs.Frame.{FrameOf};
 ghost use Rattle.product_frame.specs.declared.frame.Frame.{Frame as FrameValue};
 ghost use Rattle.product_frame.specs.declared.frame.FrameFault.{FrameFault as FaultValue};
 ghost use Rattle.product_frame.specs.Faults.{FrameFaultOf};
-ghost use Rattle.product_frame.specs.Frames.{line_at, heading_index, first_heading, full_index, issue_in, product_in, frame_after_identifier, named, frame_in, frame_from, frame_of};
+ghost use Rattle.product_frame.specs.Frames.{line_at, first_heading, first_nonempty_index, find_issue_minute, product_in, frame_after_identifier, frame_in, frame_from, read_first_frame};
 
 use crate::frame::{Frame, FrameFault, Heading};
 use crate::text::{line_of, next_start};
 use crate::walk::walk_lines;
-use desk_clock::{near, read_local_line};
+use desk_clock::{has_near_day_stamp, read_local_line};
 use hazard_types::{
     DayStamp, List, Minute, Oom, Or, Text, are_name_bytes, is_blank, is_name_byte, parse_day_stamp,
 };
 use std::alloc::Global;
 
-/// Whether the line starts as a heading does, up to the blank before the day stamp.
+/// Whether the first twelve bytes are such as a heading line starts with: as `WWUS41 KLWX` and a
+/// blank.
 fn is_front(line: &[u8]) -> bool
     requires { 12 ≤ length line.now }
     ensures { result ≡ is_front line.now }
@@ -40,7 +41,8 @@ fn is_front(line: &[u8]) -> bool
         && is_blank(line[11])
 }
 
-/// Whether the three bytes from `i` on are capital letters.
+/// Whether the three bytes of `line` from index `i` on are capital letters, as in the `BBB` of a
+/// heading line.
 fn is_bbb(line: &[u8], i: usize) -> bool
     requires { i + 3 ≤ length line.now }
     ensures { result ≡ is_bbb line.now i }
@@ -50,7 +52,8 @@ fn is_bbb(line: &[u8], i: usize) -> bool
         && line[i + 2].is_ascii_uppercase()
 }
 
-/// Returns the values of a heading line whose `BBB` was read before.
+/// Returns the values of a heading line from its first 18 bytes, as `WWUS41 KLWX 031530`, and
+/// `bbb`, the `BBB` after them, if any. `None` if these bytes are not those of a heading line.
 #[tactic(auto, unfolding(crate::specs::Parts::heading_by))]
 fn heading_by(line: &[u8], bbb: Option<[u8; 3]>) -> Option<Heading>
     requires { 18 ≤ length line.now }
@@ -70,7 +73,8 @@ fn heading_by(line: &[u8], bbb: Option<[u8; 3]>) -> Option<Heading>
     })
 }
 
-/// Returns the values of a heading line, if `line` is one.
+/// Returns the values of a heading line, as `WWUS41 KLWX 031530` or `WWUS41 KLWX 031530 CCA`, or
+/// `None` if `line` is not one. `line` has no line end and no blanks at its end.
 #[tactic(auto, unfolding(crate::specs::Parts::heading_of))]
 pub fn heading_of(line: &[u8]) -> Option<Heading>
     ensures { result ≡ heading_of line.now }
@@ -84,7 +88,8 @@ pub fn heading_of(line: &[u8]) -> Option<Heading>
     None
 }
 
-/// Whether the bytes start as a heading line does.
+/// Whether the bytes start as a heading line does: with twelve bytes such as `WWUS41 KLWX` and a
+/// blank.
 fn may_be_heading(rest: &[u8]) -> bool
     ensures { result ≡ may_be_heading rest.now }
 {
@@ -102,16 +107,19 @@ pub fn is_heading(bytes: &[u8]) -> bool
     heading_of(line_of(bytes)).is_some()
 }
 
+/// Whether a line is an AWIPS identifier, as `WSWLWX`: three capital letters and one to three
+/// characters of A-Z and 0-9.
 fn is_identifier(line: &[u8]) -> bool
     ensures { result ≡ is_identifier line.now }
 {
     line.len() >= 4 && line.len() <= 6 && is_bbb(line, 0) && are_name_bytes(&line[3..])
 }
 
-/// Returns the minute of a local line, if `line` is one.
-#[tactic(auto, unfolding(crate::specs::Parts::local_at))]
-fn local_at(line: &[u8]) -> Option<Minute>
-    ensures { result ≡ local_at line.now }
+/// Returns the minute of a local date and time line, as `1030 AM EST Wed Jan 3 2018`, or `None` if
+/// `line` is not one.
+#[tactic(auto, unfolding(crate::specs::Parts::parse_local_line))]
+fn parse_local_line(line: &[u8]) -> Option<Minute>
+    ensures { result ≡ parse_local_line line.now }
 {
     match read_local_line(line) {
         Ok(minute) => Some(minute),
@@ -119,6 +127,7 @@ fn local_at(line: &[u8]) -> Option<Minute>
     }
 }
 
+/// Whether a text starts with a digit.
 fn begins_by_digit(rest: &[u8]) -> bool
     ensures { result ≡ begins_by_digit rest.now }
 {
@@ -128,22 +137,24 @@ fn begins_by_digit(rest: &[u8]) -> bool
     }
 }
 
-/// Returns the minute of the first line of `rest`, if that is a local line.
+/// Returns the minute of the local date and time line, as `1030 AM EST Wed Jan 3 2018`, that `rest`
+/// starts with, or `None` if its first line is not one.
 #[tactic(auto, using(crate::proofs::LineFronts::no_local))]
 fn issue_at(rest: &[u8]) -> Option<Minute>
-    ensures { result ≡ local_at (line_of rest.now) }
+    ensures { result ≡ parse_local_line (line_of rest.now) }
 {
     if !begins_by_digit(rest) {
         return None;
     }
-    local_at(line_of(rest))
+    parse_local_line(line_of(rest))
 }
 
-/// Whether a minute at most 720 minutes before or after the issue has the day stamp.
+/// Whether `day`, a day of the month, hour and minute in UTC, is that of a minute at most 720
+/// minutes before or after `issue`.
 fn is_near(issue: Minute, day: DayStamp) -> bool
     ensures { result ≡ is_near issue day }
 {
-    near(issue, day)
+    has_near_day_stamp(issue, day)
 }
 
 /// Whether the line that starts at byte `at` is a heading line.
@@ -154,7 +165,8 @@ fn is_heading_at(bytes: &[u8], at: usize) -> bool
     is_heading(&bytes[at..])
 }
 
-/// Returns where the first heading line after the first line starts.
+/// Returns the index of the byte at which the first heading line after the first line of `bytes`
+/// starts, or `None` if there is none.
 fn later_heading(bytes: &[u8]) -> Option<usize>
     ensures value { result ≡ first_heading bytes.now (starts_from 0 bytes.now) }
     ensures within { IfSome result (λ at. at ≤ length bytes.now) }
@@ -169,7 +181,8 @@ fn later_heading(bytes: &[u8]) -> Option<usize>
     None
 }
 
-/// Returns where the first heading line starts.
+/// Returns the index of the byte at which the first heading line starts, or `None` if there is
+/// none.
 fn first_heading(bytes: &[u8]) -> Option<usize>
     ensures value { result ≡ first_heading bytes.now (starts bytes.now) }
     ensures within { IfSome result (λ at. at ≤ length bytes.now) }
@@ -180,10 +193,11 @@ fn first_heading(bytes: &[u8]) -> Option<usize>
     later_heading(bytes)
 }
 
-/// Returns the index of the first of the lines at `places` that is not empty.
-fn full_index(bytes: &[u8], places: &[usize]) -> Option<usize>
+/// Returns the index in `places` of the first line, in their order, that is not empty, or `None` if
+/// there is none. `places` are the indices of the bytes at which lines start.
+fn first_nonempty_index(bytes: &[u8], places: &[usize]) -> Option<usize>
     requires { All (λ start. start ≤ length bytes.now) places.now }
-    ensures value { result ≡ full_index bytes.now 0 places.now }
+    ensures value { result ≡ first_nonempty_index bytes.now 0 places.now }
     ensures within { IfSome result (λ k. k < length places.now) }
 {
     for (k, start) in places.iter().enumerate() {
@@ -194,10 +208,12 @@ fn full_index(bytes: &[u8], places: &[usize]) -> Option<usize>
     None
 }
 
-/// Returns the minute of the first local line at `places`.
-fn issue_in(bytes: &[u8], places: &[usize]) -> Option<Minute>
+/// Returns the minute of the first local date and time line, as `1030 AM EST Wed Jan 3 2018`, or
+/// `None` if there is none. `places` are the indices of the bytes at which the lines start, and are
+/// looked at in their order.
+fn find_issue_minute(bytes: &[u8], places: &[usize]) -> Option<Minute>
     requires { All (λ start. start ≤ length bytes.now) places.now }
-    ensures value { result ≡ issue_in bytes.now places.now }
+    ensures value { result ≡ find_issue_minute bytes.now places.now }
 {
     for start in places {
         let issue = issue_at(&bytes[*start..]);
@@ -208,8 +224,9 @@ fn issue_in(bytes: &[u8], places: &[usize]) -> Option<Minute>
     None
 }
 
-/// Lists where the lines after the heading start, of the product that `rest` starts with. Returns
-/// the length of the product in bytes.
+/// Appends to `places` the index of the byte at which each line after the heading starts, and
+/// returns the length in bytes of the product that `rest` starts with. The product ends before the
+/// next heading line, whose start is listed too, or with `rest`; `places` is empty before.
 fn list_lines(places: &mut Vec<usize>, rest: &[u8]) -> Result<usize, Oom>
     requires { places.old.items ≡ [] }
     ensures listed { OnOk result (places.new.items ≡ starts_from 0 (product_in rest.now)) }
@@ -227,7 +244,10 @@ fn list_lines(places: &mut Vec<usize>, rest: &[u8]) -> Result<usize, Oom>
     Ok(rest.len())
 }
 
-/// Returns the frame; the identifier is the line at `places[k]`, and what follows it is read.
+/// Returns the frame of a product whose heading and identifier were read, from the lines after the
+/// identifier's. `places` are the indices of the bytes at which the lines after the heading start,
+/// in order, and `places[k]` is that of the identifier. Errs with `NoIssueTime`, `IssueDisagrees`
+/// or the first fault of the segments.
 #[tactic(auto, unfolding(crate::specs::Frames::frame_after_identifier))]
 fn frame_after_identifier(
     alloc: Global,
@@ -244,7 +264,7 @@ fn frame_after_identifier(
     ensures { Gives result (frame_after_identifier product.now heading identifier k) }
 {
     let later = &places[k + 1..];
-    let Some(issue) = issue_in(product, later) else {
+    let Some(issue) = find_issue_minute(product, later) else {
         return Err(Or::No(FrameFault::NoIssueTime));
     };
     if !is_near(issue, heading.day) {
@@ -259,8 +279,9 @@ fn frame_after_identifier(
     })
 }
 
-/// Returns the frame of one product, whose first line is its heading and whose later lines start at
-/// `places`.
+/// Returns the frame of one product. Its first line is the heading, whose values are `heading`, and
+/// `places` are the indices of the bytes at which its later lines start, in order. Errs with
+/// `NoIdentifier`, `NoIssueTime`, `IssueDisagrees` or the first fault of the segments.
 #[tactic(auto, unfolding(crate::specs::Frames::frame_in), using(crate::proofs::Listed::starts_within))]
 fn frame_in(
     alloc: Global,
@@ -271,7 +292,7 @@ fn frame_in(
     requires { places.now ≡ starts_from 0 product.now }
     ensures { Gives result (frame_in product.now heading) }
 {
-    let Some(k) = full_index(product, places) else {
+    let Some(k) = first_nonempty_index(product, places) else {
         return Err(Or::No(FrameFault::NoIdentifier));
     };
     let line = line_of(&product[places[k]..]);
@@ -282,7 +303,9 @@ fn frame_in(
     frame_after_identifier(alloc, product, heading, identifier, places, k)
 }
 
-/// Returns the frame of the product that starts at the first line of `rest`.
+/// Returns the frame of the product that `rest` starts with; errs with its first fault, which is
+/// `NoHeading` if the first line is no heading. `places` is a buffer for where lines start, whose
+/// content is overwritten.
 #[tactic(auto, unfolding(crate::specs::Frames::frame_from))]
 fn frame_from(alloc: Global, rest: &[u8], places: &mut Vec<usize>) -> Result<Frame, Or<FrameFault>>
     ensures { Gives result (frame_from rest.now) }
@@ -295,9 +318,15 @@ fn frame_from(alloc: Global, rest: &[u8], places: &mut Vec<usize>) -> Result<Fra
     frame_in(alloc, &rest[..end], heading, places)
 }
 
-/// Returns the frame of the first product of `bytes`.
-fn frame_of(alloc: Global, bytes: &[u8], places: &mut Vec<usize>) -> Result<Frame, Or<FrameFault>>
-    ensures { Gives result (frame_of bytes.now) }
+/// Returns the frame of the first product of `bytes`; errs with its first fault, which is
+/// `NoHeading` if no line is a heading. `places` is a buffer for where lines start, whose content
+/// is overwritten.
+fn read_first_frame(
+    alloc: Global,
+    bytes: &[u8],
+    places: &mut Vec<usize>,
+) -> Result<Frame, Or<FrameFault>>
+    ensures { Gives result (read_first_frame bytes.now) }
 {
     let Some(at) = first_heading(bytes) else {
         return Err(Or::No(FrameFault::NoHeading));
@@ -305,8 +334,9 @@ fn frame_of(alloc: Global, bytes: &[u8], places: &mut Vec<usize>) -> Result<Fram
     frame_from(alloc, &bytes[at..], places)
 }
 
-/// Parses the frame of the first product of a text, as `read_frame` does. `places` is a buffer for
-/// where lines start, which the caller may use again; its content is overwritten.
+/// Parses the frame of the first product of a text. Bytes before its heading line are skipped, and
+/// it ends before the next heading line. `places` is a buffer for where lines start, which the
+/// caller may use again; its content is overwritten.
 ///
 /// # Errors
 ///
@@ -326,9 +356,9 @@ pub fn read_frame_with(
     ensures fault_only { (x : FaultValue) → FrameFaultOf bytes.now x → Gives result (Err x) }
 
     // The same as one function of the bytes.
-    ensures exact { Gives result (frame_of bytes.now) }
+    ensures exact { Gives result (read_first_frame bytes.now) }
 {
-    frame_of(alloc, bytes, places)
+    read_first_frame(alloc, bytes, places)
 }
 
 /// Parses the frame of the first product of a text. Bytes before its heading line are skipped, and
@@ -351,13 +381,14 @@ pub fn read_frame(alloc: Global, bytes: &[u8]) -> Result<Frame, Or<FrameFault>>
     ensures fault_only { (x : FaultValue) → FrameFaultOf bytes.now x → Gives result (Err x) }
 
     // The same as one function of the bytes.
-    ensures exact { Gives result (frame_of bytes.now) }
+    ensures exact { Gives result (read_first_frame bytes.now) }
 {
     let mut places = Vec::new(alloc);
     read_frame_with(alloc, bytes, &mut places)
 }
 
-/// A text has a frame or a fault, never both, and one of each at most.
+/// Law: each text has exactly one of two, a frame or a first fault, and no text has two frames or
+/// two first faults.
 pub fn frame_or_fault()
     ensures either { (bytes : Seq ℕ) →
         ((f : FrameValue) × FrameOf bytes f) ⊎ ((x : FaultValue) × FrameFaultOf bytes x) }

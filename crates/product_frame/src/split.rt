@@ -9,7 +9,8 @@ use crate::text::starts;
 use hazard_types::{List, Oom, Span};
 use std::alloc::Global;
 
-/// Returns those of `places` where a heading line starts.
+/// Returns those of `places`, in their order, at which a heading line starts. `places` are indices
+/// of bytes at which lines start.
 fn headings_in(alloc: Global, bytes: &[u8], places: &[usize]) -> Result<List<usize>, Oom>
     requires { All (λ start. start ≤ length bytes.now) places.now }
     ensures { IfOk result (λ list. list ≡ headings_in bytes.now places.now) }
@@ -23,7 +24,7 @@ fn headings_in(alloc: Global, bytes: &[u8], places: &[usize]) -> Result<List<usi
     Ok(list)
 }
 
-/// Returns the first of `places`, or `end` if there is none.
+/// Returns the first of `places`, or `end` if `places` is empty.
 fn first_or(end: usize, places: &[usize]) -> usize
     ensures { result ≡ first_or end places.now }
 {
@@ -33,7 +34,8 @@ fn first_or(end: usize, places: &[usize]) -> usize
     }
 }
 
-/// Returns the spans from each of `places` up to the next, and from the last up to `end`.
+/// Returns a span of bytes from each of `places` up to the next of them, and from the last up to
+/// `end`. `places` are indices of bytes, in ascending order.
 fn spans_to(alloc: Global, end: usize, places: &[usize]) -> Result<List<Span>, Oom>
     ensures { IfOk result (λ list. list ≡ spans_to end places.now) }
 {
@@ -45,8 +47,8 @@ fn spans_to(alloc: Global, end: usize, places: &[usize]) -> Result<List<Span>, O
     Ok(list)
 }
 
-/// Returns the products of a text as spans of bytes, one for each heading line, up to the next
-/// heading line or the end. Bytes before the first heading line belong to no product.
+/// Returns the products of a text as spans of bytes, in order: one from each heading line up to the
+/// next heading line or the end. Bytes before the first heading line belong to no product.
 ///
 /// # Errors
 ///
@@ -65,8 +67,9 @@ pub fn split_products(alloc: Global, bytes: &[u8]) -> Result<List<Span>, Oom>
     spans_to(alloc, bytes.len(), headings.as_slice())
 }
 
-/// Texts that are laid end to end are split where one ends and the next starts, if the first line
-/// of each is its one heading line, and each line has its LF.
+/// Law: if texts are laid end to end, `split_products` splits the whole exactly where one text ends
+/// and the next starts. This holds if each text has one heading line, which is its first line, and
+/// ends with LF.
 #[tactic(auto, using(crate::proofs::EndToEnd::split_apart))]
 pub fn texts_are_split_apart()
     ensures { (texts : Seq (Seq ℕ)) →

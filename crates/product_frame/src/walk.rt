@@ -8,13 +8,13 @@ ghost use Rattle.product_frame.specs.Grammar.{AreSegments};
 ghost use Rattle.product_frame.specs.Parts.{begins, begins_by, has_slash, is_end};
 ghost use Rattle.product_frame.specs.Text.{line_of};
 ghost use Rattle.ugc_codes.specs.Reading.{ugc_of};
-ghost use Rattle.product_frame.specs.Events.{pair_of};
+ghost use Rattle.product_frame.specs.Events.{parse_pair};
 ghost use Rattle.product_frame.specs.Frames.{or_fault};
 ghost use Rattle.product_frame.specs.declared.frame.FrameFault.TheVariants.{BadVtec};
-ghost use Rattle.product_frame.specs.Walking.{IsBadUgc, ahead, next_at, with_pair, open_by, at_outside, at_rest, at_pairs, step, ended, segments_of, Moves};
+ghost use Rattle.product_frame.specs.Walking.{IsBadUgc, ahead, next_at, with_pair, open_by, take_line_outside, take_line_at_rest, take_line_at_pairs, step, ended, segments_of, Moves};
 
 use crate::frame::{FrameFault, FrameSegment, Pair};
-use crate::text::{ends_in, line_of};
+use crate::text::{line_end_count, line_of};
 use hazard_types::{DayStamp, Flood, List, Or, Zone};
 use hvtec_string::read_hvtec;
 use std::alloc::Global;
@@ -44,27 +44,31 @@ pub struct Walk {
     pub stage: Stage,
 }
 
-/// Returns the values of a P-VTEC line, and those of the next line if it is an H-VTEC line.
-#[tactic(auto, unfolding(crate::specs::Events::pair_of))]
-fn pair_of(line: &[u8], next: &[u8]) -> Option<Pair>
-    ensures { result ≡ pair_of line.now next.now }
+/// Returns the values of `line`, a P-VTEC line, with those of `next`, the line after it, if that is
+/// an H-VTEC line. `None` if `line` is not a P-VTEC line.
+#[tactic(auto, unfolding(crate::specs::Events::parse_pair))]
+fn parse_pair(line: &[u8], next: &[u8]) -> Option<Pair>
+    ensures { result ≡ parse_pair line.now next.now }
 {
     let vtec = read_vtec(line)?;
     let flood = read_hvtec(next);
     Some(Pair { vtec, flood })
 }
 
-/// Returns the pair of a line that starts with `/`, or `BadVtec`.
+/// Returns the values of `line`, a P-VTEC line, with those of `next`, the line after it, if that is
+/// an H-VTEC line. Errs with `BadVtec` if `line` is not a P-VTEC line; `number` is the number of
+/// the line, where the heading is line 1.
 fn pair_or_fault(line: &[u8], next: &[u8], number: usize) -> Result<Pair, Or<FrameFault>>
-    ensures { Gives result (or_fault (pair_of line.now next.now) (BadVtec number) (λ p. Ok p)) }
+    ensures { Gives result (or_fault (parse_pair line.now next.now) (BadVtec number) (λ p. Ok p)) }
 {
-    match pair_of(line, next) {
+    match parse_pair(line, next) {
         Some(pair) => Ok(pair),
         None => Err(Or::No(FrameFault::BadVtec { line: number })),
     }
 }
 
-/// Whether a line starts as a segment does: with the code of a zone and a hyphen or `>`.
+/// Whether a line starts as a segment does: with the code of a zone or county, as `MDZ003`, and a
+/// hyphen or `>`.
 fn begins(line: &[u8]) -> bool
     ensures { result ≡ begins line.now }
 {
@@ -78,6 +82,7 @@ fn begins(line: &[u8]) -> bool
         && (line[6] == b'-' || line[6] == b'>')
 }
 
+/// Whether a line starts with `/`, as VTEC lines do.
 fn has_slash(line: &[u8]) -> bool
     ensures { result ≡ has_slash line.now }
 {
@@ -91,9 +96,10 @@ fn is_end(line: &[u8]) -> bool
     line.len() == 2 && line[0] == b'$' && line[1] == b'$'
 }
 
-/// Whether the first line of `rest` starts a segment.
+/// Whether the first line of `rest` starts as a segment does: with the code of a zone or county, as
+/// `MDZ003`, and a hyphen or `>`.
 #[tactic(auto, using(crate::proofs::LineFronts::no_begin))]
-fn line_begins(rest: &[u8]) -> bool
+fn line_starts_segment(rest: &[u8]) -> bool
     ensures { result ≡ begins (line_of rest.now) }
 {
     if !begins(rest) {
@@ -110,6 +116,7 @@ fn line_has_slash(rest: &[u8]) -> bool
     has_slash(rest)
 }
 
+/// Whether a text starts with this byte.
 fn begins_by(byte: u8, rest: &[u8]) -> bool
     ensures { result ≡ begins_by byte rest.now }
 {
@@ -130,7 +137,8 @@ fn line_is_end(rest: &[u8]) -> bool
     is_end(line_of(rest))
 }
 
-/// Returns the fault of a frame for that of a UGC text.
+/// Returns the fault of a frame for a fault in reading a UGC text: `BadUgc` with `line`, the number
+/// of the line on which the UGC text starts, or `OutOfMemory` if memory ran out.
 fn bad_ugc(fault: Or<UgcFault>, line: usize) -> Or<FrameFault>
     ensures { IsBadUgc fault line result }
 {
@@ -140,7 +148,9 @@ fn bad_ugc(fault: Or<UgcFault>, line: usize) -> Or<FrameFault>
     }
 }
 
-/// Starts a segment with the UGC text that `rest` starts with.
+/// Begins in `walk` a new segment with the UGC text that `rest` starts with, and sets the later
+/// lines of that text to be skipped. `number` is the number of its first line. Errs with `BadUgc`
+/// if there is no UGC text, or if more than blanks follows it on its last line.
 fn open_segment(
     alloc: Global,
     walk: &mut Walk,
@@ -157,7 +167,7 @@ fn open_segment(
     if !behind.is_empty() {
         return Err(Or::No(FrameFault::BadUgc { line: number }));
     }
-    walk.left = ends_in(&rest[..read.used]);
+    walk.left = line_end_count(&rest[..read.used]);
     walk.zones = read.zones;
     walk.expiry = read.expiry;
     walk.pairs = List::new(alloc);
@@ -166,25 +176,30 @@ fn open_segment(
     Ok(())
 }
 
-/// Takes a line outside of segments, which may start one.
-#[tactic(auto, unfolding(crate::specs::Walking::at_outside))]
-fn at_outside(
+/// Begins in `walk` a new segment if the first line of `rest`, which is outside of segments, starts
+/// with the code of a zone or county; otherwise `walk` stays as it is. `number` is the number of
+/// the line. Errs with `BadUgc` if such a line does not start a UGC text, or if more than blanks
+/// follows the text on its last line.
+#[tactic(auto, unfolding(crate::specs::Walking::take_line_outside))]
+fn take_line_outside(
     alloc: Global,
     walk: &mut Walk,
     number: usize,
     rest: &[u8],
 ) -> Result<(), Or<FrameFault>>
-    ensures { Moves result walk.new (at_outside walk.old number rest.now) }
+    ensures { Moves result walk.new (take_line_outside walk.old number rest.now) }
 {
-    if !line_begins(rest) {
+    if !line_starts_segment(rest) {
         return Ok(());
     }
     open_segment(alloc, walk, number, rest)
 }
 
-/// Takes a line after the VTEC lines of a segment, which may end it.
-fn at_rest(alloc: Global, walk: &mut Walk, rest: &[u8]) -> Result<(), Or<FrameFault>>
-    ensures { Moves result walk.new (at_rest walk.old (line_of rest.now)) }
+/// Ends the segment of `walk` and appends it to `walk.segments` if the first line of `rest`, a line
+/// after its UGC, is `$$`; any other line is skipped, and the stage becomes `Rest`. Errs only if
+/// memory runs out.
+fn take_line_at_rest(alloc: Global, walk: &mut Walk, rest: &[u8]) -> Result<(), Or<FrameFault>>
+    ensures { Moves result walk.new (take_line_at_rest walk.old (line_of rest.now)) }
 {
     if !line_is_end(rest) {
         walk.stage = Stage::Rest;
@@ -201,7 +216,8 @@ fn at_rest(alloc: Global, walk: &mut Walk, rest: &[u8]) -> Result<(), Or<FrameFa
     Ok(())
 }
 
-/// Returns the line that starts at the first of `starts`; empty if there is none.
+/// Returns the line at the first of `starts`, without its LF and the CRs and blanks before that;
+/// empty if `starts` is empty. `starts` are indices of bytes at which lines start.
 fn next_at<'a>(bytes: &'a [u8], starts: &[usize]) -> &'a [u8]
     requires { All (λ start. start ≤ length bytes.now) starts.now }
     ensures { result.now ≡ next_at bytes.now starts.now }
@@ -212,7 +228,8 @@ fn next_at<'a>(bytes: &'a [u8], starts: &[usize]) -> &'a [u8]
     }
 }
 
-/// Returns the number of H-VTEC lines of a pair, 1 or 0.
+/// Returns how many lines after a P-VTEC line were read with it: 1 if it has H-VTEC values, which
+/// are on the next line, else 0.
 fn ahead(flood: &Option<Flood>) -> usize
     ensures { result ≡ ahead flood.now }
 {
@@ -222,7 +239,8 @@ fn ahead(flood: &Option<Flood>) -> usize
     }
 }
 
-/// Appends a pair; its H-VTEC line, if it has one, is the next line.
+/// Appends the values of a P-VTEC line, and of its H-VTEC line if it has one, to the segment of
+/// `walk`. The next line is then skipped if it is that H-VTEC line.
 fn add_pair(walk: &mut Walk, pair: &Pair) -> Result<(), Or<FrameFault>>
     ensures { Moves result walk.new (Ok (with_pair walk.old pair.now)) }
 {
@@ -231,18 +249,21 @@ fn add_pair(walk: &mut Walk, pair: &Pair) -> Result<(), Or<FrameFault>>
     Ok(())
 }
 
-/// Takes a line after the UGC of a segment, where VTEC lines may be.
-fn at_pairs(
+/// Appends the values of the first line of `rest` to the segment of `walk` if it starts with a
+/// slash; `$$` ends the segment, and any other line ends its VTEC lines. `number` is the number of
+/// the line and `next` the line after it. Errs with `BadVtec` if a line with a slash is not a
+/// P-VTEC line.
+fn take_line_at_pairs(
     alloc: Global,
     walk: &mut Walk,
     number: usize,
     rest: &[u8],
     next: &[u8],
 ) -> Result<(), Or<FrameFault>>
-    ensures { Moves result walk.new (at_pairs walk.old number (line_of rest.now) next.now) }
+    ensures { Moves result walk.new (take_line_at_pairs walk.old number (line_of rest.now) next.now) }
 {
     if !line_has_slash(rest) {
-        return at_rest(alloc, walk, rest);
+        return take_line_at_rest(alloc, walk, rest);
     }
     match pair_or_fault(line_of(rest), next, number) {
         Ok(pair) => add_pair(walk, &pair),
@@ -250,8 +271,9 @@ fn at_pairs(
     }
 }
 
-/// Takes the line that starts at byte `start` and has this number. `later` are the starts of the
-/// lines after it.
+/// Reads the line that starts at byte `start`, as the stage of `walk` asks, or skips it if it was
+/// read with a line before. `number` is the number of the line, and `later` are the indices of the
+/// bytes at which the lines after it start, in order. Errs with `BadUgc` or `BadVtec`.
 #[tactic(auto, unfolding(crate::specs::Walking::step))]
 fn step(
     alloc: Global,
@@ -272,13 +294,14 @@ fn step(
     }
     let rest = &bytes[start..];
     match walk.stage {
-        Stage::Outside => at_outside(alloc, walk, number, rest),
-        Stage::Pairs => at_pairs(alloc, walk, number, rest, next_at(bytes, later)),
-        Stage::Rest => at_rest(alloc, walk, rest),
+        Stage::Outside => take_line_outside(alloc, walk, number, rest),
+        Stage::Pairs => take_line_at_pairs(alloc, walk, number, rest, next_at(bytes, later)),
+        Stage::Rest => take_line_at_rest(alloc, walk, rest),
     }
 }
 
-/// Returns the segments, or the fault of the one that has no end.
+/// Returns the complete segments of `walk` once all lines were read. Errs with `NoSegmentEnd` and
+/// the line on which the UGC of the last segment starts if that segment has no `$$`.
 fn segments_at_end(walk: Walk) -> Result<List<FrameSegment>, Or<FrameFault>>
     ensures { Gives result (ended walk walk.stage) }
 {
@@ -289,7 +312,9 @@ fn segments_at_end(walk: Walk) -> Result<List<FrameSegment>, Or<FrameFault>>
     }
 }
 
-/// Returns the segments of the lines that start at `starts`, of which the first has this number.
+/// Returns the segments of the lines that start at the bytes `starts`, which are in order. `number`
+/// is the number of the first of them; the heading is line 1. Errs with the first of `BadUgc`,
+/// `BadVtec` and `NoSegmentEnd` in the order of the lines.
 fn walk_over(
     alloc: Global,
     bytes: &[u8],
@@ -326,8 +351,8 @@ fn walk_over(
     segments_at_end(walk)
 }
 
-/// Returns the segments of the lines that start at `starts` (bytes). `number` is the number of the
-/// first of them; the heading is line 1.
+/// Returns the segments of the lines that start at the bytes `starts`, which are in order. `number`
+/// is the number of the first of these lines; the heading is line 1.
 ///
 /// # Errors
 ///

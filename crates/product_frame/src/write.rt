@@ -1,5 +1,5 @@
 //! Writes the texts of frames.
-ghost use Rattle.std.specs.Prelude.{◌≡◌, ◌≤◌, ◌<◌, ◌++◌, ◌∷◌, [], length, IsTrue, IfOk, OnOk};
+ghost use Rattle.std.specs.Prelude.{◌≡◌, ◌<◌, ◌++◌, length, IsTrue, IfOk, OnOk};
 ghost use Rattle.std.specs.List.{All};
 ghost use Rattle.hazard_types.specs.Digits.{is_day_stamp};
 ghost use Rattle.vtec_string.specs.Columns.{vtec_text};
@@ -38,15 +38,16 @@ pub struct Body {
 }
 
 /// Appends a line and its LF.
-fn put_line(out: &mut Text, line: &[u8]) -> Result<(), Oom>
+fn write_line(out: &mut Text, line: &[u8]) -> Result<(), Oom>
     ensures { OnOk result (out.new ≡ out.old ++ ended line.now) }
 {
     out.extend(line)?;
     out.push(b'\n')
 }
 
-/// Appends a blank and the `BBB` of a heading, if it has one.
-fn put_letters(out: &mut Text, letters: &Option<[u8; 3]>) -> Result<(), Oom>
+/// Appends a blank and the three letters of the `BBB` of a heading, as ` CCA`, or nothing for
+/// `None`.
+fn write_letters(out: &mut Text, letters: &Option<[u8; 3]>) -> Result<(), Oom>
     ensures { OnOk result (out.new ≡ out.old ++ letters_text letters.now) }
 {
     match letters {
@@ -55,7 +56,8 @@ fn put_letters(out: &mut Text, letters: &Option<[u8; 3]>) -> Result<(), Oom>
     }
 }
 
-/// Returns the heading line.
+/// Returns the heading line with the values `h`, as `WWUS41 KLWX 031530 CCA`, without a line end.
+/// The day stamp in `h` must be in range.
 fn heading_of(alloc: Global, h: &Heading) -> Result<Text, Oom>
     requires { IsTrue (is_day_stamp h.now.day) }
     ensures { IfOk result (λ text. text ≡ heading_text h.now) }
@@ -65,63 +67,71 @@ fn heading_of(alloc: Global, h: &Heading) -> Result<Text, Oom>
     text.extend(&h.office)?;
     text.push(b' ')?;
     text.extend(&day_text(h.day))?;
-    put_letters(&mut text, &h.bbb)?;
+    write_letters(&mut text, &h.bbb)?;
     Ok(text)
 }
 
-/// Appends the H-VTEC line, if there is one.
-fn put_flood(out: &mut Text, flood: &Option<Flood>) -> Result<(), Oom>
+/// Appends the H-VTEC line with these values and its LF, or nothing for `None`. The site in the
+/// values must be the code of a location.
+fn write_flood(out: &mut Text, flood: &Option<Flood>) -> Result<(), Oom>
     requires { HasLocation flood.now }
     ensures value { OnOk result (out.new ≡ out.old ++ flood_text flood.now) }
     ensures columns { OnOk result (HasFloodColumns flood.now) }
 {
     match flood {
-        Some(flood) => put_line(out, &hvtec_text(flood)),
+        Some(flood) => write_line(out, &hvtec_text(flood)),
         None => Ok(()),
     }
 }
 
-/// Appends the P-VTEC line of a pair, and its H-VTEC line.
-fn put_pair(out: &mut Text, pair: &Pair) -> Result<(), Oom>
+/// Appends the P-VTEC line of a pair, and its H-VTEC line after it, if it has one.
+fn write_pair(out: &mut Text, pair: &Pair) -> Result<(), Oom>
     requires { IsPairWritten pair.now }
     ensures value { OnOk result
         (out.new ≡ out.old ++ (ended (vtec_text pair.now.vtec) ++ flood_text pair.now.flood)) }
     ensures columns { OnOk result (HasColumns pair.now) }
 {
-    put_line(out, &vtec_text(&pair.vtec))?;
-    put_flood(out, &pair.flood)
+    write_line(out, &vtec_text(&pair.vtec))?;
+    write_flood(out, &pair.flood)
 }
 
-fn put_pairs(out: &mut Text, pairs: &List<Pair>) -> Result<(), Oom>
+/// Appends the VTEC lines of a segment, in order: each P-VTEC line, and its H-VTEC line after it,
+/// if it has one.
+fn write_pairs(out: &mut Text, pairs: &List<Pair>) -> Result<(), Oom>
     requires { All IsPairWritten pairs.now }
     ensures value { OnOk result (out.new ≡ out.old ++ pairs_text pairs.now) }
     ensures columns { OnOk result (All HasColumns pairs.now) }
 {
     for pair in pairs.as_slice() {
-        put_pair(out, pair)?;
+        write_pair(out, pair)?;
     }
     Ok(())
 }
 
-fn put_names(out: &mut Text, names: &[u8]) -> Result<(), Oom>
+/// Appends the names of the zones and an LF, or nothing if `names` is empty.
+fn write_names(out: &mut Text, names: &[u8]) -> Result<(), Oom>
     ensures { OnOk result (out.new ≡ out.old ++ names_text names.now) }
 {
     if names.is_empty() {
         return Ok(());
     }
-    put_line(out, names)
+    write_line(out, names)
 }
 
-fn put_body(out: &mut Text, local: &[u8], body: &Body) -> Result<(), Oom>
+/// Appends what a segment has after its VTEC lines: the names of its zones, the line `local`, an
+/// empty line and the text of `body`. `local` is the local date and time line of the product.
+fn write_body(out: &mut Text, local: &[u8], body: &Body) -> Result<(), Oom>
     ensures { OnOk result (out.new ≡ out.old ++ body_text local.now body.now) }
 {
-    put_names(out, body.names.as_slice())?;
-    put_line(out, local)?;
-    put_line(out, b"")?;
+    write_names(out, body.names.as_slice())?;
+    write_line(out, local)?;
+    write_line(out, b"")?;
     out.extend(body.text.as_slice())
 }
 
-fn put_segment(
+/// Appends a segment on lines: its UGC text, its VTEC lines, its body and `$$`. `local` is the
+/// local date and time line of the product, which stands in the body.
+fn write_segment(
     alloc: Global,
     out: &mut Text,
     local: &[u8],
@@ -133,13 +143,16 @@ fn put_segment(
     ensures back { OnOk result (ReadsBack segment.now) }
 {
     let ugc = write_ugc(alloc, &segment.zones, segment.expiry)?;
-    put_line(out, ugc.as_slice())?;
-    put_pairs(out, &segment.pairs)?;
-    put_body(out, local, body)?;
-    put_line(out, b"$$")
+    write_line(out, ugc.as_slice())?;
+    write_pairs(out, &segment.pairs)?;
+    write_body(out, local, body)?;
+    write_line(out, b"$$")
 }
 
-fn put_segments(
+/// Appends the segments, in order, each with the body of the same index, and an empty line after
+/// each. `local` is the local date and time line of the product; there must be as many bodies as
+/// segments.
+fn write_segments(
     alloc: Global,
     out: &mut Text,
     local: &[u8],
@@ -154,25 +167,27 @@ fn put_segments(
 {
     let bodies = bodies.as_slice();
     for (i, segment) in segments.as_slice().iter().enumerate() {
-        put_segment(alloc, out, local, segment, &bodies[i])?;
-        put_line(out, b"")?;
+        write_segment(alloc, out, local, segment, &bodies[i])?;
+        write_line(out, b"")?;
     }
     Ok(())
 }
 
-fn put_block(out: &mut Text, block: &Block) -> Result<(), Oom>
+/// Appends the block under the heading: the name of the product, the line of the office and the
+/// local line, between empty lines.
+fn write_block(out: &mut Text, block: &Block) -> Result<(), Oom>
     ensures { OnOk result (out.new ≡ out.old ++ block_text block.now) }
 {
-    put_line(out, b"")?;
-    put_line(out, block.name.as_slice())?;
-    put_line(out, block.office_line.as_slice())?;
-    put_line(out, block.local.as_slice())?;
-    put_line(out, b"")
+    write_line(out, b"")?;
+    write_line(out, block.name.as_slice())?;
+    write_line(out, block.office_line.as_slice())?;
+    write_line(out, block.local.as_slice())?;
+    write_line(out, b"")
 }
 
-/// Returns the text of a product: the heading, the identifier, `block`, and each segment with its
-/// body, `$$` and an empty line. There is one body for each segment, and lines end with LF. The
-/// text reads back as `f`, and it is one product.
+/// Returns the text of a product: the heading, the identifier, `block`, and each segment with the
+/// body of the same index, `$$` and an empty line. There must be one body for each segment; each
+/// line ends with LF. The text is one product, and reading it gives the frame `f`.
 ///
 /// # Errors
 ///
@@ -191,10 +206,10 @@ pub fn frame_text(alloc: Global, f: &Frame, block: &Block, bodies: &List<Body>) 
 {
     let heading = heading_of(alloc, &f.heading)?;
     let mut text = List::new(alloc);
-    put_line(&mut text, heading.as_slice())?;
-    put_line(&mut text, f.identifier.as_slice())?;
-    put_block(&mut text, block)?;
-    put_segments(
+    write_line(&mut text, heading.as_slice())?;
+    write_line(&mut text, f.identifier.as_slice())?;
+    write_block(&mut text, block)?;
+    write_segments(
         alloc,
         &mut text,
         block.local.as_slice(),

@@ -16,7 +16,7 @@ use Rattle.product_frame.specs.Layout.{ended, heading_text, pairs_text, names_te
 use Rattle.ugc_codes.specs.Written.{ugc_text}
 use Rattle.product_frame.specs.declared.frame.FrameSegment.{FrameSegment}
 use Rattle.product_template.specs.Bodies.{names_text as names_of, closed, headlines, when_text, front_text, back_text, bullets, texts_on, all_bullets, lines_text, body_of}
-use Rattle.product_template.specs.Lengths.{texts_length, told_of, told_on, length_in_lines, length_in_segments}
+use Rattle.product_template.specs.Lengths.{texts_length, bullet_length_of, bullet_length_on, length_in_lines, length_in_segments}
 use Rattle.product_template.specs.Text.{segment_of, frame_of, block_of, text_of, text_with}
 
 -- ---- lengths of what is put together
@@ -49,7 +49,7 @@ abbrev of_texts : Option Texts → ℕ
 of_texts None = 0
 of_texts (Some x) = texts_length x
 
-told_is : (texts : List EventTexts) (e : Event) → told_on (map told_of texts) e ≡ of_texts (texts_on texts e)
+told_is : (texts : List EventTexts) (e : Event) → bullet_length_on (map bullet_length_of texts) e ≡ of_texts (texts_on texts e)
 told_is [] e = refl
 told_is (x ∷ texts) e = elim (cases_Bool (same_event x.event e)) [ inl n ↦ rw n refl | inr n ↦ rw n (told_is texts e) ]
 
@@ -66,21 +66,21 @@ bullets_longer edition z t l None = omega arith
 bullets_longer edition z t l (Some x) = parted (front_text x) (when_text edition z t l) (back_text x)
 
 line_longer : (edition : Edition) (z : LocalZone) (t : ℕ) (texts : List EventTexts) (l : SegLine)
-    → length (bullets edition z t l (texts_on texts l.event)) ≡ length (bullets edition z t l None) + told_on (map told_of texts) l.event
+    → length (bullets edition z t l (texts_on texts l.event)) ≡ length (bullets edition z t l None) + bullet_length_on (map bullet_length_of texts) l.event
 line_longer edition z t texts l = rw (told_is texts l.event) (bullets_longer edition z t l (texts_on texts l.event))
 
 all_longer : (edition : Edition) (z : LocalZone) (t : ℕ) (texts : List EventTexts) (lines : List SegLine)
-    → length (all_bullets edition z t texts lines) ≡ length (all_bullets edition z t [] lines) + length_in_lines (map told_of texts) lines
+    → length (all_bullets edition z t texts lines) ≡ length (all_bullets edition z t [] lines) + length_in_lines (map bullet_length_of texts) lines
 all_longer edition z t texts [] = refl
 all_longer edition z t texts (l ∷ lines) =
-    both (told_on (map told_of texts) l.event) (length_in_lines (map told_of texts) lines)
+    both (bullet_length_on (map bullet_length_of texts) l.event) (length_in_lines (map bullet_length_of texts) lines)
     (bullets edition z t l (texts_on texts l.event)) (bullets edition z t l None) (all_bullets edition z t texts lines) (all_bullets edition z t [] lines)
     (line_longer edition z t texts l) (all_longer edition z t texts lines)
 
 lines_longer : (edition : Edition) (z : LocalZone) (t : ℕ) (texts : List EventTexts) (lines : List SegLine)
-    → length (lines_text edition z t texts lines) ≡ length (lines_text edition z t [] lines) + length_in_lines (map told_of texts) lines
+    → length (lines_text edition z t texts lines) ≡ length (lines_text edition z t [] lines) + length_in_lines (map bullet_length_of texts) lines
 lines_longer edition z t texts lines =
-    behind (length_in_lines (map told_of texts) lines) (closed (headlines z t lines)) (all_bullets edition z t texts lines) (all_bullets edition z t [] lines) (all_longer edition z t texts lines)
+    behind (length_in_lines (map bullet_length_of texts) lines) (closed (headlines z t lines)) (all_bullets edition z t texts lines) (all_bullets edition z t [] lines) (all_longer edition z t texts lines)
 
 -- ---- segments
 
@@ -97,27 +97,27 @@ segment_longer local names text bare g k h =
 module _ (settings : Settings) (class : Class) (texts : List EventTexts) (t : ℕ) (edition : Edition) where
   segments_longer : (local : List ℕ) (segments : List Segment)
       → length (segments_text local (map (segment_of class settings.office t) segments) (map (body_of settings class texts t edition) segments))
-      ≡ length (segments_text local (map (segment_of class settings.office t) segments) (map (body_of settings class [] t edition) segments)) + length_in_segments (map told_of texts) segments
+      ≡ length (segments_text local (map (segment_of class settings.office t) segments) (map (body_of settings class [] t edition) segments)) + length_in_segments (map bullet_length_of texts) segments
   segments_longer local [] = refl
   segments_longer local (s ∷ segments) =
-      both (length_in_lines (map told_of texts) s.lines) (length_in_segments (map told_of texts) segments)
+      both (length_in_lines (map bullet_length_of texts) s.lines) (length_in_segments (map bullet_length_of texts) segments)
       (segment_text local (segment_of class settings.office t s) (body_of settings class texts t edition s))
       (segment_text local (segment_of class settings.office t s) (body_of settings class [] t edition s))
       _ _
-      (segment_longer local (names_of settings class s.zones) (lines_text edition settings.zone t texts s.lines) (lines_text edition settings.zone t [] s.lines) (segment_of class settings.office t s) (length_in_lines (map told_of texts) s.lines) (lines_longer edition settings.zone t texts s.lines))
-      (behind (length_in_segments (map told_of texts) segments) (ended []) _ _ (segments_longer local segments))
+      (segment_longer local (names_of settings class s.zones) (lines_text edition settings.zone t texts s.lines) (lines_text edition settings.zone t [] s.lines) (segment_of class settings.office t s) (length_in_lines (map bullet_length_of texts) s.lines) (lines_longer edition settings.zone t texts s.lines))
+      (behind (length_in_segments (map bullet_length_of texts) segments) (ended []) _ _ (segments_longer local segments))
 
-  with_longer : (plan : Plan) → length (text_with settings class plan texts t edition) ≡ length (text_with settings class plan [] t edition) + length_in_segments (map told_of texts) plan.segments
+  with_longer : (plan : Plan) → length (text_with settings class plan texts t edition) ≡ length (text_with settings class plan [] t edition) + length_in_segments (map bullet_length_of texts) plan.segments
   with_longer plan =
-      let k = length_in_segments (map told_of texts) plan.segments in
+      let k = length_in_segments (map bullet_length_of texts) plan.segments in
       behind k (ended (heading_text (frame_of settings class plan t).heading)) _ _
       (behind k (ended (frame_of settings class plan t).identifier) _ _
       (behind k (block_text (block_of settings plan t)) _ _ (segments_longer (block_of settings plan t).local plan.segments)))
 
 -- the length of a plan's text
 pub longer : (settings : Settings) (class : Class) (plan : Plan) (t : ℕ) (edition : Edition)
-    → length (text_with settings class plan [] t edition) + length_in_segments (map told_of plan.texts) plan.segments ≡ length (text_of settings class plan t edition)
+    → length (text_with settings class plan [] t edition) + length_in_segments (map bullet_length_of plan.texts) plan.segments ≡ length (text_of settings class plan t edition)
 unfolding text_of
 longer settings class plan t edition =
-    let h : length (text_with settings class plan plan.texts t edition) ≡ length (text_with settings class plan [] t edition) + length_in_segments (map told_of plan.texts) plan.segments = with_longer settings class plan.texts t edition plan in
+    let h : length (text_with settings class plan plan.texts t edition) ≡ length (text_with settings class plan [] t edition) + length_in_segments (map bullet_length_of plan.texts) plan.segments = with_longer settings class plan.texts t edition plan in
     omega (arith, h)

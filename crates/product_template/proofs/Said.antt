@@ -14,7 +14,7 @@ use Rattle.hazard_types.specs.declared.hazard.Hazard.{Hazard}
 use Rattle.hazard_types.specs.declared.line.SegLine.{SegLine}
 use Rattle.hazard_types.specs.declared.period.End.{End}
 use Rattle.hazard_types.specs.declared.period.End.TheVariants.{At, Ufn}
-use Rattle.headline_text.specs.Headlines.{name_text, stated, told, expiry_of, headline_by, headline_of, capital, has_when, when_of}
+use Rattle.headline_text.specs.Headlines.{name_text, standing_headline, told, expiry_of, headline_by, headline_of, capital, has_when_bullet, when_of}
 use Rattle.headline_text.specs.Lines.{is_one_line}
 use Rattle.headline_text.specs.Periods.{until_of, from_of, period_of}
 use Rattle.product_frame.proofs.LocalLines.{NoEnd, local_line}
@@ -77,7 +77,7 @@ period_line z t (Some begin) end = elim (cases_Bool (nat_le begin t)) [ inl e �
 
 -- ---- headlines
 
-stated_line : (name effect period : List ℕ) → IsLine name → IsLine effect → IsLine period → IsLine (stated name effect period)
+stated_line : (name effect period : List ℕ) → IsLine name → IsLine effect → IsLine period → IsLine (standing_headline name effect period)
 stated_line name effect period n e p = line_both (codes "..." ++ name ++ effect ++ period) (codes "...") (line_both (codes "..." ++ name ++ effect) period (line_both (codes "..." ++ name) effect n e) p) refl
 
 told_line : (name what : List ℕ) → IsLine name → IsLine what → IsLine (told name what)
@@ -123,7 +123,7 @@ period_capital z t (Some begin) end = elim (cases_Bool (nat_le begin t)) [ inl e
 
 pub when_fit : (l : SegLine) (z : LocalZone) (t : ℕ) → IsFit (when_of l z t)
 unfolding when_of
-when_fit l z t = elim (cases_Bool (has_when l.action)) [
+when_fit l z t = elim (cases_Bool (has_when_bullet l.action)) [
   | inl e ↦ rw e ((refl, refl), line_both (codes "* WHEN..." ++ capital (period_of z t l.begin l.end)) (codes ".") (period_capital z t l.begin l.end) refl)
   | inr e ↦ rw e (tt, refl)
 ]

@@ -13,17 +13,17 @@ use Rattle.product_template.specs.declared.lengths.TextLength.{TextLength}
 unfoldable pub texts_length : Texts → ℕ
 texts_length texts = length (front_text texts ++ back_text texts)
 
-abbrev pub told_of : EventTexts → TextLength
-told_of x = record { event = x.event; bytes = texts_length x.texts }
+abbrev pub bullet_length_of : EventTexts → TextLength
+bullet_length_of x = record { event = x.event; bytes = texts_length x.texts }
 
 -- the first texts on an event
-abbrev pub told_on : List TextLength → Event → ℕ
-told_on [] e = 0
-told_on (x ∷ told) e = if same_event x.event e then x.bytes else told_on told e
+abbrev pub bullet_length_on : List TextLength → Event → ℕ
+bullet_length_on [] e = 0
+bullet_length_on (x ∷ told) e = if same_event x.event e then x.bytes else bullet_length_on told e
 
 abbrev pub length_in_lines : List TextLength → List SegLine → ℕ
 length_in_lines told [] = 0
-length_in_lines told (l ∷ lines) = told_on told l.event + length_in_lines told lines
+length_in_lines told (l ∷ lines) = bullet_length_on told l.event + length_in_lines told lines
 
 abbrev pub length_in_segments : List TextLength → List Segment → ℕ
 length_in_segments told [] = 0

@@ -1,5 +1,5 @@
 //! The body of a segment: what comes after its codes.
-ghost use Rattle.std.specs.Prelude.{◌≡◌, ◌++◌, map, IfOk, OnOk, IsTrue, IsSome, false};
+ghost use Rattle.std.specs.Prelude.{◌≡◌, ◌++◌, map, IfOk, IsSome, false};
 ghost use Rattle.std.specs.List.{All};
 ghost use Rattle.std.specs.List.Sorted.{IsStrictlySortedBy};
 ghost use Rattle.std.specs.Map.{keys_of};
@@ -10,11 +10,10 @@ ghost use Rattle.headline_text.specs.Headlines.{headline_of};
 ghost use Rattle.headline_text.specs.Wrapping.{wrapped};
 ghost use Rattle.product_template.specs.Conditions.{CanBeWritten, CanBeSegment, AreNamed};
 
-use crate::bullets::{put_bullets, put_closed, texts_on};
-use crate::making::Making;
+use crate::bullets::{texts_on, write_bullets, write_closed};
 use crate::names::names_of;
 use desk_settings::Settings;
-use hazard_types::{List, LocalZone, Minute, Oom, SegLine, Segment, Text};
+use hazard_types::{Class, List, LocalZone, Minute, Oom, SegLine, Segment, Text};
 use headline_text::{LineTexts, headline, line_texts};
 use office_types::{Edition, EventTexts};
 use product_frame::Body;
@@ -23,7 +22,8 @@ use std::alloc::Global;
 /// The room in bytes that is reserved for the headline of a line, and as much for its WHEN bullet.
 const LINE_ROOM: usize = 128;
 
-/// Returns the headline of a line and its WHEN bullet, which is empty in edition One.
+/// Returns the headline of a line and its WHEN bullet, both wrapped. In edition One the WHEN bullet
+/// is empty. `t` is the product's issue minute, and times are local times of `zone`.
 #[tactic(auto, using(crate::proofs::Hazards::named))]
 fn said_of(
     alloc: Global,
@@ -46,18 +46,20 @@ fn said_of(
     }
 }
 
-/// Returns the headlines, an empty line if there are any, and the bullets.
+/// Returns the headlines, then an empty line if there are any, then the bullets.
 fn joined(alloc: Global, headlines: &Text, bullets: &Text) -> Result<Text, Oom>
     ensures { IfOk result (λ text. text ≡ closed headlines.now ++ bullets.now) }
 {
     let room = headlines.len().saturating_add(bullets.len());
     let mut text = Text::from_vec(Vec::with_capacity(alloc, room.saturating_add(1))?);
-    put_closed(&mut text, headlines.as_slice())?;
+    write_closed(&mut text, headlines.as_slice())?;
     text.extend(bullets.as_slice())?;
     Ok(text)
 }
 
-/// Returns the headlines of the lines and then their bullets, both in the order of the lines.
+/// Returns the headlines of the lines, an empty line, and then their bullets, both in the order of
+/// the lines. `texts` are the forecasters' texts by event, and `t` is the product's issue minute.
+/// Times are local times of `zone`, and in edition One there is no WHEN bullet.
 fn lines_text(
     alloc: Global,
     edition: Edition,
@@ -74,8 +76,8 @@ fn lines_text(
     let mut bullets = Text::from_vec(Vec::with_capacity(alloc, room)?);
     for line in lines {
         let said = said_of(alloc, edition, zone, t, line)?;
-        put_closed(&mut headlines, said.headline.as_slice())?;
-        put_bullets(
+        write_closed(&mut headlines, said.headline.as_slice())?;
+        write_bullets(
             alloc,
             &mut bullets,
             &said.when,
@@ -85,35 +87,40 @@ fn lines_text(
     joined(alloc, &headlines, &bullets)
 }
 
-/// Returns the body of a segment: the names of its zones, the headlines and the bullets.
+/// Returns the body of a segment: the names of its zones, none in class `T`, the headlines and the
+/// bullets. `texts` are the forecasters' texts by event, and `t` is the product's issue minute. In
+/// edition One there is no WHEN bullet.
 fn body_of(
     alloc: Global,
     settings: &Settings,
-    making: Making,
+    class: Class,
     texts: &[EventTexts],
+    t: Minute,
+    edition: Edition,
     segment: &Segment,
 ) -> Result<Body, Oom>
     requires order { IsStrictlySortedBy by_place (keys_of settings.now.zones) }
     requires segment { CanBeSegment segment.now }
-    requires named { is_training making.class ≡ false
+    requires named { is_training class ≡ false
         → All (λ z. IsSome (name_for_zone settings.now.zones z)) segment.now.zones }
     ensures { IfOk result
-        (λ body. body ≡ body_of settings.now making.class texts.now making.t making.edition
-        segment.now) }
+        (λ body. body ≡ body_of settings.now class texts.now t edition segment.now) }
 {
-    let names = names_of(alloc, settings, making.class, segment.zones.as_slice())?;
+    let names = names_of(alloc, settings, class, segment.zones.as_slice())?;
     let text = lines_text(
         alloc,
-        making.edition,
+        edition,
         settings.zone,
-        making.t,
+        t,
         texts,
         segment.lines.as_slice(),
     )?;
     Ok(Body { names, text })
 }
 
-/// Returns the bodies of segments.
+/// Returns the body of each segment, in order: the names of its zones, none in class `T`, the
+/// headlines and the bullets. `texts` are the forecasters' texts by event, and `t` is the product's
+/// issue minute. In edition One there is no WHEN bullet.
 ///
 /// # Errors
 ///
@@ -123,20 +130,21 @@ fn body_of(
 pub fn bodies_of(
     alloc: Global,
     settings: &Settings,
-    making: Making,
+    class: Class,
     texts: &[EventTexts],
+    t: Minute,
+    edition: Edition,
     segments: &[Segment],
 ) -> Result<List<Body>, Oom>
     requires order { IsStrictlySortedBy by_place (keys_of settings.now.zones) }
     requires segments { All CanBeSegment segments.now }
-    requires named { is_training making.class ≡ false → AreNamed settings.now.zones segments.now }
+    requires named { is_training class ≡ false → AreNamed settings.now.zones segments.now }
     ensures { IfOk result
-        (λ bodies. bodies ≡ map
-        (body_of settings.now making.class texts.now making.t making.edition) segments.now) }
+        (λ bodies. bodies ≡ map (body_of settings.now class texts.now t edition) segments.now) }
 {
     let mut bodies = List::new(alloc);
     for segment in segments {
-        bodies.push(body_of(alloc, settings, making, texts, segment)?)?;
+        bodies.push(body_of(alloc, settings, class, texts, t, edition, segment)?)?;
     }
     Ok(bodies)
 }

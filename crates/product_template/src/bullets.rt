@@ -1,5 +1,5 @@
 //! The bullets of a line: the forecasters' texts with their labels, and the WHEN bullet.
-ghost use Rattle.std.specs.Prelude.{◌≡◌, ◌++◌, OnOk, IsTrue, option_map};
+ghost use Rattle.std.specs.Prelude.{◌≡◌, ◌++◌, OnOk, option_map};
 ghost use Rattle.hazard_types.specs.declared.codes.Action.TheVariants as action;
 ghost use Rattle.headline_text.specs.Lines.{has_word};
 ghost use Rattle.product_template.specs.Bodies.{closed, paragraph, bullet, front_text, back_text, bullets_around, texts_on};
@@ -16,12 +16,12 @@ fn has_word(text: &[u8]) -> bool
     text.iter().any(|byte| *byte != b' ')
 }
 
-/// Adds lines and a final LF; nothing if there are none.
+/// Appends `lines` and a final LF to `out`; nothing if `lines` is empty.
 ///
 /// # Errors
 ///
 /// Out of memory.
-pub fn put_closed(out: &mut Text, lines: &[u8]) -> Result<(), Oom>
+pub fn write_closed(out: &mut Text, lines: &[u8]) -> Result<(), Oom>
     ensures { OnOk result (out.new ≡ out.old ++ closed lines.now) }
 {
     if lines.is_empty() {
@@ -31,8 +31,8 @@ pub fn put_closed(out: &mut Text, lines: &[u8]) -> Result<(), Oom>
     out.push(b'\n')
 }
 
-/// Adds lines, a final LF and an empty line; nothing if there are none.
-fn put_paragraph(out: &mut Text, lines: &[u8]) -> Result<(), Oom>
+/// Appends `lines`, a final LF and an empty line to `out`; nothing if `lines` is empty.
+fn write_paragraph(out: &mut Text, lines: &[u8]) -> Result<(), Oom>
     ensures { OnOk result (out.new ≡ out.old ++ paragraph lines.now) }
 {
     if lines.is_empty() {
@@ -42,8 +42,9 @@ fn put_paragraph(out: &mut Text, lines: &[u8]) -> Result<(), Oom>
     out.extend(b"\n\n")
 }
 
-/// Adds a label and a forecaster's text, wrapped together; nothing if the text is blank.
-fn put_bullet(alloc: Global, out: &mut Text, label: &[u8], text: &Text) -> Result<(), Oom>
+/// Appends a label and a forecaster's text, wrapped together, and an empty line to `out`; nothing
+/// if the text is blank.
+fn write_bullet(alloc: Global, out: &mut Text, label: &[u8], text: &Text) -> Result<(), Oom>
     ensures { OnOk result (out.new ≡ out.old ++ bullet label.now text.now) }
 {
     if !has_word(text.as_slice()) {
@@ -54,34 +55,37 @@ fn put_bullet(alloc: Global, out: &mut Text, label: &[u8], text: &Text) -> Resul
     whole.extend(label)?;
     whole.extend(text.as_slice())?;
     let lines = wrapped(alloc, whole.as_slice())?;
-    put_paragraph(out, lines.as_slice())
+    write_paragraph(out, lines.as_slice())
 }
 
-/// Adds the bullets before WHEN: WHAT and WHERE.
+/// Appends the bullets that come before WHEN to `out`: WHAT and WHERE, without those whose text is
+/// blank.
 ///
 /// # Errors
 ///
 /// Out of memory.
-pub fn put_front(alloc: Global, out: &mut Text, texts: &Texts) -> Result<(), Oom>
+pub fn write_front(alloc: Global, out: &mut Text, texts: &Texts) -> Result<(), Oom>
     ensures { OnOk result (out.new ≡ out.old ++ front_text texts.now) }
 {
-    put_bullet(alloc, out, b"* WHAT...", &texts.what)?;
-    put_bullet(alloc, out, b"* WHERE...", &texts.area)
+    write_bullet(alloc, out, b"* WHAT...", &texts.what)?;
+    write_bullet(alloc, out, b"* WHERE...", &texts.area)
 }
 
-/// Adds the bullets after WHEN: IMPACTS and ADDITIONAL DETAILS.
+/// Appends the bullets that come after WHEN to `out`: IMPACTS and ADDITIONAL DETAILS, without those
+/// whose text is blank.
 ///
 /// # Errors
 ///
 /// Out of memory.
-pub fn put_back(alloc: Global, out: &mut Text, texts: &Texts) -> Result<(), Oom>
+pub fn write_back(alloc: Global, out: &mut Text, texts: &Texts) -> Result<(), Oom>
     ensures { OnOk result (out.new ≡ out.old ++ back_text texts.now) }
 {
-    put_bullet(alloc, out, b"* IMPACTS...", &texts.impacts)?;
-    put_bullet(alloc, out, b"* ADDITIONAL DETAILS...", &texts.details)
+    write_bullet(alloc, out, b"* IMPACTS...", &texts.impacts)?;
+    write_bullet(alloc, out, b"* ADDITIONAL DETAILS...", &texts.details)
 }
 
-/// Returns the first texts on an event.
+/// Returns the forecasters' texts of the first entry of `texts` that is for this event, or `None`
+/// if no entry is.
 pub fn texts_on<'a>(texts: &'a [EventTexts], event: &Event) -> Option<&'a Texts>
     ensures { option_map (λ found. found.now) result ≡ texts_on texts.now event.now }
 {
@@ -93,12 +97,14 @@ pub fn texts_on<'a>(texts: &'a [EventTexts], event: &Event) -> Option<&'a Texts>
     None
 }
 
-/// Adds the bullets of a line: WHAT, WHERE, `when`, IMPACTS, ADDITIONAL DETAILS.
+/// Appends the bullets of a line to `out`: WHAT, WHERE, `when`, IMPACTS, ADDITIONAL DETAILS,
+/// without the blank ones. `when` is the wrapped WHEN bullet, or empty, and `texts` are the
+/// forecasters' texts on the line's event, if there are any.
 ///
 /// # Errors
 ///
 /// Out of memory.
-pub fn put_bullets(
+pub fn write_bullets(
     alloc: Global,
     out: &mut Text,
     when: &Text,
@@ -109,10 +115,10 @@ pub fn put_bullets(
 {
     match texts {
         Some(texts) => {
-            put_front(alloc, out, texts)?;
-            put_paragraph(out, when.as_slice())?;
-            put_back(alloc, out, texts)
+            write_front(alloc, out, texts)?;
+            write_paragraph(out, when.as_slice())?;
+            write_back(alloc, out, texts)
         }
-        None => put_paragraph(out, when.as_slice()),
+        None => write_paragraph(out, when.as_slice()),
     }
 }

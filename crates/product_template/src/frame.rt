@@ -1,5 +1,5 @@
 //! The frame of a plan: the values that a reader finds in its text.
-ghost use Rattle.std.specs.Prelude.{◌≡◌, ◌≤◌, ◌++◌, map, IfOk};
+ghost use Rattle.std.specs.Prelude.{◌≡◌, ◌≤◌, map, IfOk};
 ghost use Rattle.event_life.specs.Printed.{printed_end};
 ghost use Rattle.product_template.specs.Text.{three_letters, heading_of, identifier_of, pair_of, segment_of, frame_of, block_of};
 
@@ -12,6 +12,8 @@ use product_frame::{Block, Frame, FrameSegment, Heading, Pair};
 use segmenter::expiry;
 use std::alloc::Global;
 
+/// Returns the BBB group of a correction, `CC` and `letter`, as `CCA`, or `None` if there is no
+/// letter, since the product is no correction.
 fn three_letters(letter: &Option<u8>) -> Option<[u8; 3]>
     ensures { result ≡ three_letters letter.now }
 {
@@ -21,6 +23,8 @@ fn three_letters(letter: &Option<u8>) -> Option<[u8; 3]>
     }
 }
 
+/// Returns the heading of a plan's product that is issued at minute `t`: the code for its category
+/// and the office of the settings, the day stamp of `t`, and the BBB group of a correction.
 fn heading_of(settings: &Settings, plan: &Plan, t: Minute) -> Heading
     ensures { result ≡ heading_of settings.now plan.now t }
 {
@@ -32,6 +36,8 @@ fn heading_of(settings: &Settings, plan: &Plan, t: Minute) -> Heading
     }
 }
 
+/// Returns the product identifier, as `WSWLWX`: the three letters of the plan's category and the
+/// site of the settings, without a line end.
 fn identifier_of(alloc: Global, settings: &Settings, plan: &Plan) -> Result<Text, Oom>
     ensures { IfOk result (λ text. text ≡ identifier_of settings.now plan.now) }
 {
@@ -40,6 +46,8 @@ fn identifier_of(alloc: Global, settings: &Settings, plan: &Plan) -> Result<Text
     Ok(text)
 }
 
+/// Returns the end that a P-VTEC line prints, or `None`, which is printed as zeros, for until
+/// further notice.
 fn printed_end(end: &End) -> Option<Minute>
     ensures { result ≡ printed_end end.now }
 {
@@ -49,7 +57,9 @@ fn printed_end(end: &End) -> Option<Minute>
     }
 }
 
-/// Returns the P-VTEC and H-VTEC values of a line.
+/// Returns the values of the P-VTEC line of a line of a segment, and of its H-VTEC line if it has
+/// flood values. `class` is the P-VTEC product class, and `office` the four characters of the
+/// issuing office, as `KLWX`.
 fn pair_of(class: Class, office: [u8; 4], line: &SegLine) -> Pair
     ensures { result ≡ pair_of class office line.now }
 {
@@ -68,6 +78,9 @@ fn pair_of(class: Class, office: [u8; 4], line: &SegLine) -> Pair
     }
 }
 
+/// Returns for each line of a segment, in order, the values of its P-VTEC line and of its H-VTEC
+/// line, if it has one. `class` is the P-VTEC product class, and `office` the four characters of
+/// the issuing office, as `KLWX`.
 fn pairs_of(
     alloc: Global,
     class: Class,
@@ -83,6 +96,9 @@ fn pairs_of(
     Ok(pairs)
 }
 
+/// Returns the frame of a segment of a product issued at minute `t`: its zones, its expiry and the
+/// values of its VTEC lines. `class` is the P-VTEC product class, and `office` the four characters
+/// of the issuing office, as `KLWX`.
 fn segment_of(
     alloc: Global,
     class: Class,
@@ -103,6 +119,9 @@ fn segment_of(
     })
 }
 
+/// Returns for each segment of a product issued at minute `t`, in order, its frame: zones, expiry
+/// and the values of its VTEC lines. `class` is the P-VTEC product class, and `office` the four
+/// characters of the issuing office, as `KLWX`.
 fn segments_of(
     alloc: Global,
     class: Class,
@@ -120,8 +139,9 @@ fn segments_of(
     Ok(list)
 }
 
-/// Returns the frame of a plan: heading, identifier, minute of issue, and the zones, expiry and
-/// codes of each segment.
+/// Returns the frame of a plan's product issued at minute `t`: heading, identifier, issue minute,
+/// and the zones, expiry and VTEC values of each segment. `class` is the P-VTEC product class of
+/// all lines.
 ///
 /// # Errors
 ///
@@ -148,8 +168,8 @@ pub fn frame_of(
     })
 }
 
-/// Returns the product block, the lines between the identifier and the first segment: the product's
-/// name, the office line and the local line.
+/// Returns the lines between the identifier and the first segment of a product: the product's name,
+/// the office line of the settings, and the local date and time line of `t`, the issue minute.
 ///
 /// # Errors
 ///

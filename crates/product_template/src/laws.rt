@@ -14,8 +14,9 @@ ghost use Rattle.product_frame.specs.ZoneLinesOf.{zone_lines_of};
 ghost use Rattle.segmenter.specs.Said.{lines_in_text};
 ghost use Rattle.product_template.specs.Text.{segment_of, frame_of, text_of};
 
-/// The zone lines of a plan's frame are the lines of its segments, in their order, as a text of
-/// this office and class prints them.
+/// Law: what the frame of a plan says of each zone is what the lines of the plan's segments say, by
+/// segment, then zone, then line of the segment. Each has the office of the settings and the class,
+/// and the values that a P-VTEC line and its H-VTEC line print.
 #[tactic(auto, using(crate::proofs::Lines::lines_said))]
 pub fn texts_say_the_lines()
     ensures { (settings : Settings) (class : Class) (plan : Plan) (t : ℕ) →
@@ -23,8 +24,9 @@ pub fn texts_say_the_lines()
         ≡ map (zone_line_of class settings.office) (lines_in_text plan.segments) }
 {}
 
-/// The text of a plan, however long, has the plan's frame and is one product, provided that the
-/// codes of its segments read back, as those of zones, minutes and letters of their types do.
+/// Law: the text of a plan is read as the plan's frame, and is one product, however long it is.
+/// This holds if the codes of the plan's segments read back as they were written, which those of
+/// zones, minutes and letters of their types do.
 pub fn texts_read_as_their_plans()
     ensures frame { (settings : Settings) (class : Class) (plan : Plan) (t : ℕ)
         (edition : Edition) →

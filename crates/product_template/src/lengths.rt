@@ -1,8 +1,8 @@
 //! The length of a text, computed without laying out the forecasters' texts in each line.
-ghost use Rattle.std.specs.Prelude.{◌≡◌, ◌+◌, map, length, IfOk};
-ghost use Rattle.product_template.specs.Lengths.{texts_length, told_of, told_on, length_in_lines, length_in_segments};
+ghost use Rattle.std.specs.Prelude.{◌≡◌, ◌+◌, map, IfOk};
+ghost use Rattle.product_template.specs.Lengths.{texts_length, bullet_length_of, bullet_length_on, length_in_lines, length_in_segments};
 
-use crate::bullets::{put_back, put_front};
+use crate::bullets::{write_back, write_front};
 use hazard_types::{Event, List, Oom, SegLine, Segment, Text};
 use office_types::{EventTexts, Plan, Texts};
 use std::alloc::Global;
@@ -14,7 +14,7 @@ pub struct TextLength {
     pub bytes: usize,
 }
 
-/// Returns `sum + amount`.
+/// Returns the sum of two numbers of bytes, `sum + amount`.
 ///
 /// # Errors
 ///
@@ -28,20 +28,22 @@ pub fn checked_sum(sum: usize, amount: usize) -> Result<usize, Oom>
     }
 }
 
-/// Returns the length in bytes of the bullets of texts.
+/// Returns the length in bytes of the bullets that the texts of an event give: WHAT, WHERE, IMPACTS
+/// and ADDITIONAL DETAILS, without the blank ones.
 #[tactic(auto, unfolding(crate::specs::Lengths::texts_length))]
 fn texts_length(alloc: Global, texts: &Texts) -> Result<usize, Oom>
     ensures { IfOk result (λ n. n ≡ texts_length texts.now) }
 {
     let mut text = Text::new(alloc);
-    put_front(alloc, &mut text, texts)?;
-    put_back(alloc, &mut text, texts)?;
+    write_front(alloc, &mut text, texts)?;
+    write_back(alloc, &mut text, texts)?;
     Ok(text.len())
 }
 
-/// Returns the event of `entry` and the length of the bullets of its texts.
-fn told_of(alloc: Global, entry: &EventTexts) -> Result<TextLength, Oom>
-    ensures { IfOk result (λ told. told ≡ told_of entry.now) }
+/// Returns the event of `entry`, and the length in bytes of the bullets that its texts give,
+/// without WHEN.
+fn bullet_length_of(alloc: Global, entry: &EventTexts) -> Result<TextLength, Oom>
+    ensures { IfOk result (λ told. told ≡ bullet_length_of entry.now) }
 {
     let bytes = texts_length(alloc, &entry.texts)?;
     Ok(TextLength {
@@ -50,24 +52,26 @@ fn told_of(alloc: Global, entry: &EventTexts) -> Result<TextLength, Oom>
     })
 }
 
-/// Returns the length of the bullets of each event's texts. Lays each out once.
+/// Returns for each entry, in order, its event and the length in bytes of the bullets of its texts,
+/// without WHEN. The bullets of an entry are laid out once.
 ///
 /// # Errors
 ///
 /// Out of memory.
-pub fn each_told(alloc: Global, texts: &[EventTexts]) -> Result<List<TextLength>, Oom>
-    ensures { IfOk result (λ told. told ≡ map told_of texts.now) }
+pub fn bullet_lengths(alloc: Global, texts: &[EventTexts]) -> Result<List<TextLength>, Oom>
+    ensures { IfOk result (λ told. told ≡ map bullet_length_of texts.now) }
 {
     let mut told = List::new(alloc);
     for entry in texts {
-        told.push(told_of(alloc, entry)?)?;
+        told.push(bullet_length_of(alloc, entry)?)?;
     }
     Ok(told)
 }
 
-/// Returns the length of the bullets of the first texts on an event; 0 if it has none.
-fn told_on(told: &[TextLength], event: &Event) -> usize
-    ensures { result ≡ told_on told.now event.now }
+/// Returns the length in bytes of the bullets of the first entry of `told` on this event, or 0 if
+/// no entry is on it.
+fn bullet_length_on(told: &[TextLength], event: &Event) -> usize
+    ensures { result ≡ bullet_length_on told.now event.now }
 {
     for entry in told {
         if entry.event == *event {
@@ -77,17 +81,21 @@ fn told_on(told: &[TextLength], event: &Event) -> usize
     0
 }
 
+/// Returns the sum of the lengths in bytes of the bullets of the lines, without WHEN. `told` has
+/// the length for each event; a line of any other event counts 0. Errs with `Oom` if the sum
+/// overflows.
 fn length_in_lines(told: &[TextLength], lines: &[SegLine]) -> Result<usize, Oom>
     ensures { IfOk result (λ n. n ≡ length_in_lines told.now lines.now) }
 {
     let mut sum = 0;
     for line in lines {
-        sum = checked_sum(sum, told_on(told, &line.event))?;
+        sum = checked_sum(sum, bullet_length_on(told, &line.event))?;
     }
     Ok(sum)
 }
 
-/// Returns the sum of the lengths of the bullets of all lines, in bytes.
+/// Returns the sum of the lengths in bytes of the bullets of all lines of the segments, without
+/// WHEN. `told` has the length for each event; a line of any other event counts 0.
 ///
 /// # Errors
 ///
@@ -102,8 +110,9 @@ pub fn length_in_segments(told: &[TextLength], segments: &[Segment]) -> Result<u
     Ok(sum)
 }
 
-/// Whether the plan's texts, if each of them were in each line, have more than `most` bytes. This
-/// guess only decides how `product_text` finds the length.
+/// Whether the bytes of all forecasters' texts of the plan, times the number of lines in its
+/// segments, are more than `most`. This is only a guess: the text of the product may still have
+/// `most` bytes or less, and by other parts more.
 pub fn may_be_long(plan: &Plan, most: usize) -> bool {
     let mut said: usize = 0;
     for entry in plan.texts.as_slice() {

@@ -8,7 +8,6 @@ mod bullets;
 mod frame;
 mod laws;
 mod lengths;
-mod making;
 mod names;
 mod text;
 

@@ -14,7 +14,7 @@ use hazard_types::{Category, Class, Oom, Text, Zone};
 use headline_text::name_lines;
 use std::alloc::Global;
 
-/// Returns the name of a zone that has one in the settings.
+/// Returns the name of a zone in the settings, which must have one.
 fn zone_name<'a>(settings: &'a Settings, zone: &Zone) -> &'a [u8]
     requires order { IsStrictlySortedBy by_place (keys_of settings.now.zones) }
     requires named { IsSome (name_for_zone settings.now.zones zone.now) }
@@ -26,7 +26,9 @@ fn zone_name<'a>(settings: &'a Settings, zone: &Zone) -> &'a [u8]
     }
 }
 
-/// Returns the names of zones on lines, each with its hyphen.
+/// Returns the names of zones, in order, each with a hyphen after it, on lines with LF between them
+/// and none at the end. A line has at most 66 characters, unless one name with its hyphen is
+/// longer. The settings must have a name for each zone.
 fn zone_lines(alloc: Global, settings: &Settings, zones: &[Zone]) -> Result<Text, Oom>
     requires order { IsStrictlySortedBy by_place (keys_of settings.now.zones) }
     requires named { All (λ z. IsSome (name_for_zone settings.now.zones z)) zones.now }
@@ -39,7 +41,9 @@ fn zone_lines(alloc: Global, settings: &Settings, zones: &[Zone]) -> Result<Text
     name_lines(alloc, names.as_slice())
 }
 
-/// Returns the names of a segment's zones on lines; nothing for class `T`.
+/// Returns the names of a segment's zones, in order, each with a hyphen after it, on lines with LF
+/// between them and none at the end. Empty for class `T`; for other classes the settings must have
+/// a name for each zone.
 ///
 /// # Errors
 ///
@@ -63,7 +67,7 @@ pub fn names_of(
     }
 }
 
-/// Returns the name of the products of a category.
+/// Returns the name of the products of a category, as `URGENT - WINTER WEATHER MESSAGE`.
 ///
 /// Source: docs/HAZARDS.md, "Categories".
 fn product_name(category: Category) -> &'static [u8]
@@ -81,7 +85,9 @@ fn product_name(category: Category) -> &'static [u8]
     }
 }
 
-/// Returns the name of the product, followed by `...CORRECTED` if it is a correction.
+/// Returns the name of the products of a category, as `FLOOD WATCH`, followed by `...CORRECTED` if
+/// there is a `letter`. A letter stands for a correction: it is the last of the BBB group in its
+/// heading.
 ///
 /// # Errors
 ///

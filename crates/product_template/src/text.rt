@@ -11,8 +11,7 @@ ghost use Rattle.product_template.specs.Text.{frame_of, text_of, text_with};
 
 use crate::bodies::bodies_of;
 use crate::frame::{block_of, frame_of};
-use crate::lengths::{checked_sum, each_told, length_in_segments, may_be_long};
-use crate::making::Making;
+use crate::lengths::{bullet_lengths, checked_sum, length_in_segments, may_be_long};
 use desk_settings::Settings;
 use hazard_types::{Class, Minute, Oom, Or, Text};
 use office_types::{Edition, EventTexts, Plan, Refusal};
@@ -22,50 +21,61 @@ use std::alloc::Global;
 /// The most bytes of a product text.
 const MOST: usize = 65_536;
 
-/// Returns the text of a plan, however long, with `texts` in place of the plan's own.
+/// Returns the text of a plan's product issued at minute `t`, however long, with the forecasters'
+/// texts `texts` in place of the plan's own. In class `T` zones have no names, and in edition One
+/// lines have no WHEN bullet.
 fn whole_text(
     alloc: Global,
     settings: &Settings,
-    making: Making,
+    class: Class,
     plan: &Plan,
     texts: &[EventTexts],
+    t: Minute,
+    edition: Edition,
 ) -> Result<Text, Oom>
-    requires can { CanBeText settings.now making.class plan.now making.t }
+    requires can { CanBeText settings.now class plan.now t }
     requires printable { All ArePrintable texts.now }
     ensures value { IfOk result
-        (λ text. text ≡ text_with settings.now making.class plan.now texts.now making.t
-        making.edition) }
-    ensures frame { IfOk result
-        (λ text. FrameOf text (frame_of settings.now making.class plan.now making.t)) }
+        (λ text. text ≡ text_with settings.now class plan.now texts.now t edition) }
+    ensures frame { IfOk result (λ text. FrameOf text (frame_of settings.now class plan.now t)) }
     ensures one { IfOk result IsOneProduct }
 {
-    let frame = frame_of(alloc, settings, making.class, plan, making.t)?;
-    let block = block_of(alloc, settings, plan, making.t)?;
-    let bodies = bodies_of(alloc, settings, making, texts, plan.segments.as_slice())?;
+    let frame = frame_of(alloc, settings, class, plan, t)?;
+    let block = block_of(alloc, settings, plan, t)?;
+    let bodies = bodies_of(
+        alloc,
+        settings,
+        class,
+        texts,
+        t,
+        edition,
+        plan.segments.as_slice(),
+    )?;
     frame_text(alloc, &frame, &block, &bodies)
 }
 
-/// Returns the length in bytes of a plan's text, however long. Lays the texts of an event out once,
-/// however many lines the event has.
+/// Returns the length in bytes of the text of a plan's product issued at minute `t`, however long.
+/// The texts of an event are laid out once, however many lines the event has.
 fn text_length(
     alloc: Global,
     settings: &Settings,
-    making: Making,
+    class: Class,
     plan: &Plan,
+    t: Minute,
+    edition: Edition,
 ) -> Result<usize, Oom>
-    requires { CanBeText settings.now making.class plan.now making.t }
-    ensures { IfOk result (λ n. n
-        ≡ length (text_of settings.now making.class plan.now making.t making.edition)) }
+    requires { CanBeText settings.now class plan.now t }
+    ensures { IfOk result (λ n. n ≡ length (text_of settings.now class plan.now t edition)) }
 {
-    let told = each_told(alloc, plan.texts.as_slice())?;
+    let told = bullet_lengths(alloc, plan.texts.as_slice())?;
     let said = length_in_segments(told.as_slice(), plan.segments.as_slice())?;
-    let bare = whole_text(alloc, settings, making, plan, &[])?;
+    let bare = whole_text(alloc, settings, class, plan, &[], t, edition)?;
     checked_sum(bare.len(), said)
 }
 
 /// Returns the text of a plan as a product that is issued at minute `t`: lines that each end with
-/// LF, at most 65,536 bytes in all. In class `T` zones have no names, and in edition One lines have
-/// no WHEN bullet.
+/// LF, at most 65,536 bytes in all. `class` is the P-VTEC product class; in class `T` zones have no
+/// names. In edition One lines have no WHEN bullet.
 ///
 /// # Errors
 ///
@@ -97,15 +107,14 @@ pub fn product_text(
     // Its one heading line is its first line, and each line has its end.
     ensures one_product { IfOk result IsOneProduct }
 {
-    let making = Making { class, t, edition };
     if may_be_long(plan, MOST) {
-        let bytes = text_length(alloc, settings, making, plan)?;
+        let bytes = text_length(alloc, settings, class, plan, t, edition)?;
         if bytes > MOST {
             return Err(Or::No(Refusal::TooLong { bytes }));
         }
     }
     let texts = plan.texts.as_slice();
-    let text = whole_text(alloc, settings, making, plan, texts)?;
+    let text = whole_text(alloc, settings, class, plan, texts, t, edition)?;
     if text.len() > MOST {
         return Err(Or::No(Refusal::TooLong { bytes: text.len() }));
     }

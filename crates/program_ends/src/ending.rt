@@ -8,7 +8,8 @@ use byte_streams::{Sink, write_whole};
 use desk_traits::Failed;
 use itoa::Buffer;
 
-// Writes `first` and then `second`. On `Err` a prefix of both may be written.
+/// Writes `first` and then `second` to `output`. It errs if a write failed; a prefix of the two
+/// texts together may be written then.
 pub(crate) fn write_both<K: Sink>(output: &mut K, first: &[u8], second: &[u8]) -> Result<(), Failed>
     ensures { WritesText (K.outflow output.old) (K.outflow output.new) result
         (first.now ++ second.now) }
@@ -17,7 +18,8 @@ pub(crate) fn write_both<K: Sink>(output: &mut K, first: &[u8], second: &[u8]) -
     write_whole(output, second)
 }
 
-// Writes `front`, `value` and LF. On `Err` a prefix of these may be written.
+/// Writes one line to `output`: `front`, then `value`, then an LF. It errs if a write failed; a
+/// prefix of the line may be written then.
 fn write_line<K: Sink>(output: &mut K, front: &[u8], value: &[u8]) -> Result<(), Failed>
     ensures { WritesText (K.outflow output.old) (K.outflow output.new) result
         (front.now ++ value.now ++ codes "\n") }
@@ -26,8 +28,8 @@ fn write_line<K: Sink>(output: &mut K, front: &[u8], value: &[u8]) -> Result<(),
     write_whole(output, b"\n")
 }
 
-// Writes the line of `end`, with its LF, and takes no memory. On `Err` a prefix of the line may be
-// written.
+/// Writes the line that reports the fault `end`, such as `fault Damaged 1234`, with its LF. It errs
+/// if the write failed; a prefix of the line may be written then. It allocates no memory.
 fn write_fault<K: Sink>(output: &mut K, end: &End) -> Result<(), Failed>
     ensures { WritesText (K.outflow output.old) (K.outflow output.new) result (fault_line end.now) }
 {
@@ -42,8 +44,9 @@ fn write_fault<K: Sink>(output: &mut K, end: &End) -> Result<(), Failed>
     }
 }
 
-// Writes the line `fault WriteFault`, or a prefix of it where this fails too, and returns its
-// status.
+/// Writes the line `fault WriteFault` with its LF to `output`, and returns 8, the exit status of a
+/// run in which a write failed. If this write fails too, only a prefix of the line may be written,
+/// and 8 is returned all the same.
 fn write_fault_of_write<K: Sink>(output: &mut K) -> u8
     ensures status { result ≡ 8 }
     ensures tried { IsTried write_fault_line (K.outflow output.old) (K.outflow output.new) }
@@ -52,9 +55,10 @@ fn write_fault_of_write<K: Sink>(output: &mut K) -> u8
     8
 }
 
-/// Ends a run and returns the exit status: 0 for `None`, else the status of `end`, whose line is
-/// written. If that write fails, or `end` is a write fault, the status is 8, and a prefix of the
-/// line `fault WriteFault` is written.
+/// Writes the line that reports the fault `end`, and returns the exit status of the run,
+/// `End::status` of that fault. For `None`, a run without a fault, it writes nothing and returns 0.
+/// If the write fails, or `end` is `WriteFault`, it returns 8 after it has tried to write the line
+/// `fault WriteFault`, of which only a prefix may be written.
 ///
 /// docs/COMMANDS.md, "How a run ends".
 pub fn end_run<K: Sink>(output: &mut K, end: Option<End>) -> u8
@@ -74,7 +78,9 @@ pub fn end_run<K: Sink>(output: &mut K, end: Option<End>) -> u8
     }
 }
 
-/// Ends a run that has written nothing, for a reason other than a write fault, as `end_run` does.
+/// Writes the line that reports the fault `end`, and returns the exit status, `End::status` of that
+/// fault; for a run that has written nothing before. `end` must not be `WriteFault`. If the write
+/// fails, it tries to write the line `fault WriteFault`, and returns 8.
 pub fn end_at_once<K: Sink>(output: &mut K, end: End) -> u8
     requires { is_write_fault end ≡ false }
     ensures { Telling [] (K.outflow output.old) (K.outflow output.new) (Some end) result }
@@ -82,8 +88,8 @@ pub fn end_at_once<K: Sink>(output: &mut K, end: End) -> u8
     end_run(output, Some(end))
 }
 
-/// Writes `text`, which is all that the run writes, ends the run as `end_run` does and returns the
-/// exit status.
+/// Writes `text`, which is all that the run writes, and returns the exit status 0. If the write
+/// fails, it tries to write the line `fault WriteFault`, and returns 8.
 pub fn tell<K: Sink>(output: &mut K, text: &[u8]) -> u8
     ensures { TellsText text.now (K.outflow output.old) (K.outflow output.new) result }
 {

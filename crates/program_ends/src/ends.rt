@@ -36,7 +36,9 @@ pub enum End {
 }
 
 impl End {
-    /// Returns the exit status, 2 to 14 (docs/COMMANDS.md, "How a run ends").
+    /// Returns the exit status of a program that ends with this fault: 2 for `Usage`, and one more
+    /// for each of the variants after it, in their order, so 8 for `WriteFault` and 14 for
+    /// `JournalFull` (docs/COMMANDS.md, "How a run ends").
     pub fn status(&self) -> u8
         ensures { result ≡ status_of self.now }
     {
@@ -57,14 +59,17 @@ impl End {
         }
     }
 
-    /// Whether this is a write fault.
+    /// Whether this is a failed write of the output.
     pub fn is_write_fault(&self) -> bool
         ensures { result ≡ is_write_fault self.now }
     {
         matches!(self, End::WriteFault)
     }
 
-    /// The line of the fault without LF, up to its value if it has one.
+    /// Returns the line that reports this fault, such as `fault Usage`, without its LF. For
+    /// `SettingsRefused` and `Damaged` it returns only the part before the value, such as `fault
+    /// Damaged ` with the blank at its end; the value is the text of the settings' fault or the
+    /// number of the damaged byte.
     pub(crate) fn front(&self) -> &'static str
         ensures { result.now ≡ fault_prefix self.now }
     {

@@ -29,7 +29,7 @@ impl Model for Line {
     ghost view = { λ l. record { kept = l.kept.items; is_longer = l.is_longer } };
 }
 
-/// The line without one CR at its end.
+/// Returns `line` without its last byte if that is a CR, else all of `line`.
 fn without_return(line: &[u8]) -> &[u8]
     ensures { result.now ≡ without_return line.now }
 {
@@ -40,7 +40,7 @@ fn without_return(line: &[u8]) -> &[u8]
     }
 }
 
-/// The line, or `None` if it is over the limit.
+/// Returns `line` itself, or `None` if it has more than 65,536 bytes.
 fn line_within_limit(line: &[u8]) -> Option<&[u8]>
     ensures { option_map (λ bytes. bytes.now) result ≡ fit line.now }
 {
@@ -68,7 +68,8 @@ impl Line {
         })
     }
 
-    /// Appends a byte to the line.
+    /// Appends a byte to the line. Bytes after the first 65,537 are not stored; then only the fact
+    /// that the line is longer is noted. It allocates no memory.
     pub fn push(&mut self, byte: u8)
         ensures { (line : List ℕ) → self.old ≡ pending_of line
             → self.new ≡ pending_of (line ++ byte ∷ []) }
@@ -80,7 +81,7 @@ impl Line {
         }
     }
 
-    /// Begins the next line.
+    /// Removes all bytes, so that the next line may begin.
     #[tactic(auto, unfolding(crate::specs::Lines::pending_of))]
     pub fn clear(&mut self)
         ensures { self.new ≡ pending_of [] }
@@ -89,8 +90,8 @@ impl Line {
         self.is_longer = false;
     }
 
-    /// Returns the line as an LF ended it, without one CR before the LF, or `None` if it has more
-    /// than 65,536 bytes.
+    /// Returns the bytes pushed since the last `clear`, as a line that an LF has ended: without one
+    /// CR at their end, if there is one. It is `None` if more than 65,536 bytes remain.
     pub fn line_at_end(&self) -> Option<&[u8]>
         ensures { (line : List ℕ) → self.now ≡ pending_of line
             → option_map (λ bytes. bytes.now) result ≡ fit (without_return line) }
@@ -102,7 +103,8 @@ impl Line {
         }
     }
 
-    /// Returns the line as the input's end ended it, or `None` if it has more than 65,536 bytes.
+    /// Returns the bytes pushed since the last `clear`, as the last line of an input, which no LF
+    /// has ended: a CR at their end is kept. It is `None` if they are more than 65,536.
     pub fn unended(&self) -> Option<&[u8]>
         ensures { (line : List ℕ) → self.now ≡ pending_of line
             → option_map (λ bytes. bytes.now) result ≡ fit line }

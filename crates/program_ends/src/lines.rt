@@ -23,12 +23,13 @@ pub trait Answers {
     /// `state'`. A line over the limit is passed as `None`.
     ghost answers: { Self → Option (List ℕ) → List ℕ → Self → Type 0 };
 
-    /// `out_of_memory state line state'`: what the state may be when memory ran out while the line was
-    /// answered.
+    /// `out_of_memory state line state'`: what the state may be when memory ran out while the line
+    /// was answered.
     ghost out_of_memory: { Self → Option (List ℕ) → Self → Type 0 };
 
-    /// Answers a line, which is without its LF. A line of more than 65,536 bytes is passed as
-    /// `None`.
+    /// Returns the answer to one line of the input. `line` is its bytes without the LF at its end,
+    /// or `None` if they are more than 65,536. The answer may depend on the lines that were
+    /// answered before, as `self` may change.
     ///
     /// # Errors
     ///
@@ -40,7 +41,10 @@ pub trait Answers {
             (option_map (λ bytes. bytes.now) line.entry) self.new) };
 }
 
-// Answers a line and writes the answer.
+/// Has `answers` answer one line, and writes the answer to `output`. `line` is its bytes without
+/// the LF at its end, or `None` if they are more than 65,536. It errs with `OutOfMemory` if memory
+/// ran out in the answering, or with `Write` if the write failed, when a prefix of the answer may
+/// be written.
 fn reply<K: Sink, A: Answers>(
     alloc: Global,
     answers: &mut A,
@@ -63,7 +67,10 @@ fn reply<K: Sink, A: Answers>(
     }
 }
 
-/// Answers the lines that end in `chunk`, and stores what there is of the next one in `line`.
+/// Answers each line that ends with an LF in `chunk`, the next bytes of the input, in order, and
+/// writes the answers to `output`. `line` holds the start of the first of these lines before, and
+/// the bytes after the last LF afterwards. It errs at the first line whose answering
+/// (`OutOfMemory`) or writing (`Write`) fails.
 fn feed<K: Sink, A: Answers>(
     alloc: Global,
     answers: &mut A,
@@ -94,7 +101,11 @@ fn feed<K: Sink, A: Answers>(
 /// The most bytes of an input that the programs read to its end.
 pub const LIMIT: usize = 1_073_741_824;
 
-// Reads to the input's end, and answers each line.
+/// Reads `input` to its end, has `answers` answer each line, and writes the answers to `output`.
+/// The lines that end in a piece, the at most 4,096 bytes of one read, are answered before the next
+/// piece is read, and the bytes after the last LF are answered as the last line, even if there are
+/// none. It errs with `Read` or `Write` if a read or write fails, with `OutOfMemory`, or with
+/// `TooLong` if the input has more than `limit` bytes.
 fn answer_lines<S: Source, K: Sink, A: Answers>(
     alloc: Global,
     limit: usize,
@@ -120,10 +131,12 @@ fn answer_lines<S: Source, K: Sink, A: Answers>(
     reply(alloc, answers, line.unended(), output)
 }
 
-/// Answers each line of an input of at most `limit` bytes, writes the line that ends the run, and
-/// returns the exit status. All lines that end in a piece are answered before the next read, and
-/// only one line is stored. One byte over the limit is read at most, and the line with it gets no
-/// answer.
+/// Reads `input` to its end, has `answers` answer each line, writes the answers to `output`, and
+/// returns the exit status: 0, or that of the fault that stopped the run, whose line is then
+/// written to `output`. The lines that end in a piece, the at most 4,096 bytes of one read, are
+/// answered before the next piece is read, and the bytes after the last LF are answered as the last
+/// line. An input of more than `limit` bytes stops the run (`InputTooLong`) after the lines that
+/// end within the limit are answered.
 ///
 /// docs/DECISIONS.md, "Ends of a program".
 pub fn run_lines<S: Source, K: Sink, A: Answers>(

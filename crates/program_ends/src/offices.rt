@@ -5,7 +5,8 @@ ghost use Rattle.hazard_types.specs.Calendar.{is_digit};
 ghost use Rattle.hazard_types.specs.Characters.{is_office};
 ghost use Rattle.hazard_types.specs.Places.{is_capital};
 
-/// Whether all bytes are capital letters or digits.
+/// Whether each byte is A-Z or 0-9, the characters of an office such as `KLWX`; true of no bytes at
+/// all.
 fn are_office_letters(word: &[u8]) -> bool
     ensures { result ≡ list_all (λ c. is_capital c || is_digit c) word.now }
 {
@@ -13,7 +14,8 @@ fn are_office_letters(word: &[u8]) -> bool
         .all(|c| c.is_ascii_uppercase() || c.is_ascii_digit())
 }
 
-/// Parses an office, four characters of A-Z and 0-9. `None` exactly if `word` is none.
+/// Returns the office that a word names, four characters of A-Z and 0-9 such as `KLWX`. It is
+/// `None` exactly if `word` is not of this form.
 #[tactic(auto, using(crate::proofs::Shapes::four_is))]
 pub fn office_of(word: &[u8]) -> Option<[u8; 4]>
     ensures value { result ≡ (if is_office word.now then Some word.now else None) }

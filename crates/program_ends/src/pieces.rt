@@ -26,7 +26,7 @@ impl Model for Pieces {
 }
 
 impl Pieces {
-    /// Returns the start of an input of at most `limit` bytes.
+    /// Returns a reader that has read no piece yet of an input that may have at most `limit` bytes.
     pub fn up_to(limit: usize) -> Self
         requires { limit + 1 < 2 ^ 64 }
         ensures { result ≡ extent limit 0 }
@@ -34,9 +34,10 @@ impl Pieces {
         Pieces { limit, total: 0 }
     }
 
-    /// Reads the next piece of `input` into the start of `buffer`, which must not be empty. Returns
-    /// how many of its bytes are within the limit, or `None` at the input's end. One byte over the
-    /// limit is read, to see that it is there.
+    /// Reads the next piece of `input` into the start of `buffer`, which must not be empty, and
+    /// returns how many of the piece's bytes are within the limit, or `None` at the input's end. At
+    /// most one byte over the limit is read, to find out whether the input is too long; it is not
+    /// counted in the result, and the next call errs.
     ///
     /// # Errors
     ///

@@ -21,7 +21,9 @@ pub enum Reply {
 }
 
 impl Reply {
-    /// Writes the reply. On `Err` a prefix of it may be written.
+    /// Writes the reply to `output`: its text, and an LF after that of a `Line` or a `Fixed`; for
+    /// `Nothing` it writes nothing. It errs if a write failed; a prefix of the reply may be written
+    /// then.
     pub(crate) fn write<K: Sink>(&self, output: &mut K) -> Result<(), Failed>
         ensures { WritesText (K.outflow output.old) (K.outflow output.new) result
             (bytes_of self.now) }

@@ -5,7 +5,8 @@ ghost use Rattle.program_ends.specs.Words.{words_after};
 use hazard_types::{List, Oom, Text};
 use std::alloc::Global;
 
-/// Returns the arguments after the first `skipped`, as bytes.
+/// Returns the arguments in `words` after the first `skipped`, in order, as bytes. The list is
+/// empty if there are no more than `skipped`.
 ///
 /// # Errors
 ///

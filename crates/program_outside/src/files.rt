@@ -21,8 +21,9 @@ pub trait Files {
     /// value as `new`.
     ghost opens: { Self → List ℕ → Access → Self.File → Self → Type 0 };
 
-    /// Opens the file `path`, which is created empty if it is not there. If it can't be opened,
-    /// each call of the returned disk fails.
+    /// Opens the file `path`, which is created empty if it is not there, and returns it as a disk.
+    /// If it can't be opened, or `access` is `Writes` and another program that writes has it open,
+    /// each call of the disk fails.
     fn open(&mut self, path: &str, access: Access) -> Self::File
         ensures { opens self.old path.now access result self.new };
 }

@@ -15,7 +15,8 @@ pub type HostOutside<'a> = Outside<
     StdSink<Stderr>,
 >;
 
-/// Returns the command line, standard input, standard output, and standard error for messages.
+/// Returns what the system gives the program: the allocator, the arguments (or `Oom` if memory ran
+/// out for them), standard input, standard output, and standard error as the sink of messages.
 pub fn host_io(rt: &HostRuntime) -> HostOutside<'_> {
     Outside {
         alloc: rt.alloc(),
@@ -33,13 +34,13 @@ pub struct HostFiles<'a> {
 }
 
 impl<'a> HostFiles<'a> {
-    /// Returns the files of the runtime's system.
+    /// Returns a value that opens files of the system of `rt`.
     pub fn new(rt: &'a HostRuntime) -> Self {
         HostFiles { rt }
     }
 
-    /// Opens the file for reading and writing, and creates it if it is not there. One that is to be
-    /// written is locked until it is closed.
+    /// Opens the file for reading and writing, and creates it empty if it is not there. With
+    /// `Access::Writes` it is locked until it is closed.
     ///
     /// # Errors
     ///
@@ -62,6 +63,8 @@ impl Files for HostFiles<'_> {
 
     ghost opens = { λ _ _ _ _ _. Unit {0} };
 
+    /// Returns the file `path` as a disk, created empty if it is not there, and locked if `access`
+    /// is `Writes`. If the file can't be opened or locked, each call of the disk fails.
     fn open(&mut self, path: &str, access: Access) -> FileDisk {
         FileDisk::new(self.file(path, access).ok())
     }

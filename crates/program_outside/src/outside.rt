@@ -1,5 +1,5 @@
 //! What a program is started with.
-ghost use Rattle.std.specs.Prelude.{◌≡◌, ◌≢◌, IfOk};
+ghost use Rattle.std.specs.Prelude.{◌≡◌, IfOk};
 ghost use Rattle.program_outside.specs.Starts.{words_given, IsUsageShown};
 
 use byte_streams::{Sink, write_whole};
@@ -19,7 +19,8 @@ pub struct Outside<S, K, M> {
 }
 
 impl<S, K, M> Outside<S, K, M> {
-    /// Returns the arguments after the first `skipped`, as bytes.
+    /// Returns the arguments after the first `skipped`, as bytes; none if there are no more than
+    /// these. The program's name counts as the first argument.
     ///
     /// # Errors
     ///
@@ -35,8 +36,8 @@ impl<S, K, M> Outside<S, K, M> {
 }
 
 impl<S, K, M: Sink> Outside<S, K, M> {
-    /// Writes `usage` to `messages` if `status` is that of a usage error. A failed write is
-    /// ignored.
+    /// Writes the usage line `usage` to `messages` if `status` is the exit status of a usage error,
+    /// 2; otherwise writes nothing. A failed write is ignored.
     pub fn show_usage(&mut self, status: u8, usage: &str)
         ensures shown { IsUsageShown usage.now status (M.outflow self.old.messages)
             (M.outflow self.new.messages) }

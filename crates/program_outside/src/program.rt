@@ -25,8 +25,9 @@ pub trait Program<S: Source, K: Sink> {
     fn usage() -> &'static str
         ensures { result.now ≡ usage };
 
-    /// Does what the words ask for, with an input of at most `limit` bytes, and returns the exit
-    /// status.
+    /// Does what `words`, the arguments after the program's name, ask for with an input of at most
+    /// `limit` bytes, writes to `output` and returns the exit status. `limit` must be at most
+    /// `program_ends::LIMIT`.
     fn run(alloc: Global, words: &List<Text>, limit: usize, input: &mut S, output: &mut K) -> u8
         requires { limit ≤ most_bytes }
         ensures { does words.now limit
@@ -35,8 +36,9 @@ pub trait Program<S: Source, K: Sink> {
 }
 
 impl<S: Source, K: Sink, M: Sink> Outside<S, K, M> {
-    /// Does what the words after the program's name ask for. If memory runs out for the words, the
-    /// status is 12, and nothing is read or written.
+    /// Runs `P` with the arguments after the program's name and an input of at most
+    /// `program_ends::LIMIT` bytes, and returns its exit status. If memory runs out for the
+    /// arguments, the status is 12, and nothing is read or written.
     fn run_words<P: Program<S, K>>(&mut self) -> u8
         ensures ran { Runs self.old.words (λ words. P.does words most_bytes)
             (streams (S.inflow self.old.input) (K.outflow self.old.output))
@@ -49,9 +51,10 @@ impl<S: Source, K: Sink, M: Sink> Outside<S, K, M> {
         }
     }
 
-    /// Runs the whole program `P`: does what its command line asks for with its input and output,
-    /// and returns the status of that run. For wrong words it writes the usage line to the
-    /// messages.
+    /// Runs `P` with the arguments after the program's name and an input of at most
+    /// `program_ends::LIMIT` bytes, and returns its exit status, or 12 if memory runs out for the
+    /// arguments. If that is 2, the status of a usage error, the usage line is written to
+    /// `messages`.
     pub fn run<P: Program<S, K>>(&mut self) -> ExitCode
         ensures ran { Runs self.old.words (λ words. P.does words most_bytes)
             (streams (S.inflow self.old.input) (K.outflow self.old.output))

@@ -8,7 +8,8 @@ use std::alloc::Global;
 use std::env::Args;
 use std::io::{self, ErrorKind};
 
-/// Returns the arguments that were read, or none if they can't be read.
+/// Returns the arguments of the command line that `read` holds, the program's name first. They are
+/// an empty list if `read` is an error other than out of memory.
 ///
 /// # Errors
 ///

@@ -24,8 +24,8 @@ use Rattle.office_types.specs.declared.request.Target.{Target}
 use Rattle.office_types.specs.declared.request.Target.TheVariants as target
 use Rattle.office_types.specs.declared.request.Texts.{Texts}
 use Rattle.hazard_types.specs.Letters.{severity_code, status_code}
-use Rattle.json_parts.specs.Written.{put_text, put_number}
-use Rattle.request_json.specs.Canonical.{put_source, put_times, put_begin, put_end, zone_data, zone_items, texts_data, flood_data, event_texts_data, event_texts_items, put_flood, put_target, put_zones_texts, put_put, put_event_part, put_routine, put_do, put_draft, put_put_do, put_event_do, put_routine_do, put_intent, intent_data, put_request, asked_members}
+use Rattle.json_parts.specs.Written.{set_text, set_number}
+use Rattle.request_json.specs.Canonical.{set_source, set_times, write_begin, write_end, zone_data, zone_items, texts_data, flood_data, event_texts_data, event_texts_items, set_flood, set_target, set_zones_texts, set_put, set_event_part, set_routine, put_do, put_draft, set_put_do, set_event_do, set_routine_do, set_intent, intent_data, set_request, asked_members}
 use Rattle.request_json.specs.Replies.{draft_members, intent_items}
 use Rattle.office_types.specs.declared.request.Draft.{Draft}
 use Rattle.request_json.specs.declared.asked.Asked.{Asked}
@@ -40,91 +40,91 @@ texts_clean : (t : Texts) → has_float (texts_data t) ≡ false
 unfolding texts_data
 texts_clean t =
     let a = put_text_no_float (codes "what") t.what no_members refl in
-    let b = put_text_no_float (codes "area") t.area (put_text (codes "what") t.what no_members) a in
-    let c = put_text_no_float (codes "impacts") t.impacts (put_text (codes "area") t.area (put_text (codes "what") t.what no_members)) b in
-    put_text_no_float (codes "details") t.details (put_text (codes "impacts") t.impacts (put_text (codes "area") t.area (put_text (codes "what") t.what no_members))) c
+    let b = put_text_no_float (codes "area") t.area (set_text (codes "what") t.what no_members) a in
+    let c = put_text_no_float (codes "impacts") t.impacts (set_text (codes "area") t.area (set_text (codes "what") t.what no_members)) b in
+    put_text_no_float (codes "details") t.details (set_text (codes "impacts") t.impacts (set_text (codes "area") t.area (set_text (codes "what") t.what no_members))) c
 
-source_clean : (f : Flood) (ms : Members) → Clean ms → Clean (put_source f ms)
+source_clean : (f : Flood) (ms : Members) → Clean ms → Clean (set_source f ms)
 source_clean f ms h =
-    let m0 : Members = put_text (codes "site") f.site ms in
+    let m0 : Members = set_text (codes "site") f.site ms in
     let h0 : Clean m0 = put_text_no_float (codes "site") f.site ms h in
-    let m1 : Members = put_text (codes "severity") (severity_code f.severity) m0 in
+    let m1 : Members = set_text (codes "severity") (severity_code f.severity) m0 in
     let h1 : Clean m1 = put_text_no_float (codes "severity") (severity_code f.severity) m0 h0 in
     put_text_no_float (codes "cause") f.cause m1 h1
 
-times_clean : (f : Flood) (ms : Members) → Clean ms → Clean (put_times f ms)
+times_clean : (f : Flood) (ms : Members) → Clean ms → Clean (set_times f ms)
 times_clean f ms h =
-    let m0 : Members = put_text (codes "begin") (time_text f.begin) ms in
+    let m0 : Members = set_text (codes "begin") (time_text f.begin) ms in
     let h0 : Clean m0 = put_text_no_float (codes "begin") (time_text f.begin) ms h in
-    let m1 : Members = put_text (codes "crest") (time_text f.crest) m0 in
+    let m1 : Members = set_text (codes "crest") (time_text f.crest) m0 in
     let h1 : Clean m1 = put_text_no_float (codes "crest") (time_text f.crest) m0 h0 in
     put_text_no_float (codes "end") (time_text f.end) m1 h1
 
 flood_clean : (f : Flood) → has_float (flood_data f) ≡ false
 unfolding flood_data
 flood_clean f =
-    let m0 : Members = put_source f no_members in
-    put_text_no_float (codes "status") (status_code f.status) (put_times f m0) (times_clean f m0 (source_clean f no_members refl))
+    let m0 : Members = set_source f no_members in
+    put_text_no_float (codes "status") (status_code f.status) (set_times f m0) (times_clean f m0 (source_clean f no_members refl))
 
 event_texts_clean : (t : EventTexts) → has_float (event_texts_data t) ≡ false
 unfolding event_texts_data
-event_texts_clean t = no_float_put (codes "texts") (texts_data t.texts) (put_text (codes "event") (event_text t.event) no_members) (texts_clean t.texts) (put_text_no_float (codes "event") (event_text t.event) no_members refl)
+event_texts_clean t = no_float_put (codes "texts") (texts_data t.texts) (set_text (codes "event") (event_text t.event) no_members) (texts_clean t.texts) (put_text_no_float (codes "event") (event_text t.event) no_members refl)
 
-flood_put : (o : Option Flood) (ms : Members) → Clean ms → Clean (put_flood o ms)
+flood_put : (o : Option Flood) (ms : Members) → Clean ms → Clean (set_flood o ms)
 flood_put None ms h = h
 flood_put (Some f) ms h = no_float_put (codes "flood") (flood_data f) ms (flood_clean f) h
 
-target_put : (t : Target) (ms : Members) → Clean ms → Clean (put_target t ms)
+target_put : (t : Target) (ms : Members) → Clean ms → Clean (set_target t ms)
 target_put (target.Fresh x) ms h = put_text_no_float (codes "hazard") (hazard_code x) ms h
 target_put (target.Join e) ms h = put_text_no_float (codes "event") (event_text e) ms h
 
-begin_put : (b : Begin) (ms : Members) → Clean ms → Clean (put_begin b ms)
+begin_put : (b : Begin) (ms : Members) → Clean ms → Clean (write_begin b ms)
 begin_put begin.Now ms h = put_text_no_float (codes "begin") (codes "now") ms h
 begin_put (begin.At m) ms h = put_text_no_float (codes "begin") (stamp_of m) ms h
 
-end_put : (e : End) (ms : Members) → Clean ms → Clean (put_end e ms)
+end_put : (e : End) (ms : Members) → Clean ms → Clean (write_end e ms)
 end_put end.Ufn ms h = put_text_no_float (codes "end") (codes "ufn") ms h
 end_put (end.At m) ms h = put_text_no_float (codes "end") (stamp_of m) ms h
 
-zones_texts_put : (zs : List Place) (t : Texts) (ms : Members) → Clean ms → Clean (put_zones_texts zs t ms)
+zones_texts_put : (zs : List Place) (t : Texts) (ms : Members) → Clean ms → Clean (set_zones_texts zs t ms)
 zones_texts_put zs t ms h =
     let zones = mapped_no_float zone_data (λ (z : Place). text_no_float (zone_text z)) zs in
     no_float_put (codes "texts") (texts_data t) (put (codes "zones") (array (zone_items zs)) ms) (texts_clean t) (no_float_put (codes "zones") (array (zone_items zs)) ms zones h)
 
-put_put_clean : (p : PutPart) (ms : Members) → Clean ms → Clean (put_put p ms)
-unfolding put_put
+put_put_clean : (p : PutPart) (ms : Members) → Clean ms → Clean (set_put p ms)
+unfolding set_put
 put_put_clean p ms h =
-    let m0 : Members = put_target p.target ms in
+    let m0 : Members = set_target p.target ms in
     let h0 : Clean m0 = target_put p.target ms h in
-    let m1 : Members = put_zones_texts p.zones p.texts m0 in
+    let m1 : Members = set_zones_texts p.zones p.texts m0 in
     let h1 : Clean m1 = zones_texts_put p.zones p.texts m0 h0 in
-    let m2 : Members = put_begin p.begin m1 in
+    let m2 : Members = write_begin p.begin m1 in
     let h2 : Clean m2 = begin_put p.begin m1 h1 in
-    let m3 : Members = put_end p.end m2 in
+    let m3 : Members = write_end p.end m2 in
     flood_put p.flood m3 (end_put p.end m2 h2)
 
-event_part_clean : (p : EventPart) (ms : Members) → Clean ms → Clean (put_event_part p ms)
-unfolding put_event_part
-event_part_clean p ms h = zones_texts_put p.zones p.texts (put_text (codes "event") (event_text p.event) ms) (put_text_no_float (codes "event") (event_text p.event) ms h)
+event_part_clean : (p : EventPart) (ms : Members) → Clean ms → Clean (set_event_part p ms)
+unfolding set_event_part
+event_part_clean p ms h = zones_texts_put p.zones p.texts (set_text (codes "event") (event_text p.event) ms) (put_text_no_float (codes "event") (event_text p.event) ms h)
 
-routine_clean : (p : RoutinePart) (ms : Members) → Clean ms → Clean (put_routine p ms)
-unfolding put_routine
-routine_clean p ms h = zones_texts_put p.zones p.texts (put_text (codes "hazard") (hazard_code p.hazard) ms) (put_text_no_float (codes "hazard") (hazard_code p.hazard) ms h)
+routine_clean : (p : RoutinePart) (ms : Members) → Clean ms → Clean (set_routine p ms)
+unfolding set_routine
+routine_clean p ms h = zones_texts_put p.zones p.texts (set_text (codes "hazard") (hazard_code p.hazard) ms) (put_text_no_float (codes "hazard") (hazard_code p.hazard) ms h)
 
 do_clean : (word : List ℕ) (ms : Members) → Clean ms → Clean (put_do word ms)
 do_clean word ms h = put_text_no_float (codes "do") word ms h
 
-put_do_clean : (word : List ℕ) (p : PutPart) (ms : Members) → Clean ms → Clean (put_put_do word p ms)
+put_do_clean : (word : List ℕ) (p : PutPart) (ms : Members) → Clean ms → Clean (set_put_do word p ms)
 put_do_clean word p ms h = put_put_clean p (put_do word ms) (do_clean word ms h)
 
-event_do_clean : (word : List ℕ) (p : EventPart) (ms : Members) → Clean ms → Clean (put_event_do word p ms)
+event_do_clean : (word : List ℕ) (p : EventPart) (ms : Members) → Clean ms → Clean (set_event_do word p ms)
 event_do_clean word p ms h = event_part_clean p (put_do word ms) (do_clean word ms h)
 
-routine_do_clean : (p : RoutinePart) (ms : Members) → Clean ms → Clean (put_routine_do p ms)
+routine_do_clean : (p : RoutinePart) (ms : Members) → Clean ms → Clean (set_routine_do p ms)
 routine_do_clean p ms h = routine_clean p (put_do (codes "routine") ms) (do_clean (codes "routine") ms h)
 
-intent_put : (i : Intent) (ms : Members) → Clean ms → Clean (put_intent i ms)
-unfolding put_intent
+intent_put : (i : Intent) (ms : Members) → Clean ms → Clean (set_intent i ms)
+unfolding set_intent
 intent_put (intent.Put p) ms h = put_do_clean (codes "put") p ms h
 intent_put (intent.Finish p) ms h = event_do_clean (codes "end") p ms h
 intent_put (intent.Restate p) ms h = event_do_clean (codes "restate") p ms h
@@ -140,8 +140,8 @@ draft_clean n ms h = put_number_no_float (codes "draft") n ms h
 texts_items_clean : (ts : List EventTexts) → items_have_float (event_texts_items ts) ≡ false
 texts_items_clean ts = mapped_no_float event_texts_data event_texts_clean ts
 
-request_put : (r : Request) (ms : Members) → Clean ms → Clean (put_request r ms)
-unfolding put_request
+request_put : (r : Request) (ms : Members) → Clean ms → Clean (set_request r ms)
+unfolding set_request
 request_put (request.Begin c) ms h = put_text_no_float (codes "category") (category_code c) (put_do (codes "open") ms) (do_clean (codes "open") ms h)
 request_put (request.Issue p) ms h = put_do_clean (codes "issue") p ms h
 request_put (request.Put n p) ms h = put_do_clean (codes "put") p (put_draft n ms) (draft_clean n ms h)
@@ -153,25 +153,25 @@ request_put (request.Take n) ms h = draft_clean n (put_do (codes "take") ms) (do
 request_put (request.Discard n) ms h = draft_clean n (put_do (codes "discard") ms) (do_clean (codes "discard") ms h)
 request_put (request.Send n) ms h = draft_clean n (put_do (codes "send") ms) (do_clean (codes "send") ms h)
 request_put (request.Correct n ts) ms h =
-    no_float_put (codes "texts") (array (event_texts_items ts)) (put_number (codes "product") n (put_do (codes "correct") ms)) (texts_items_clean ts)
+    no_float_put (codes "texts") (array (event_texts_items ts)) (set_number (codes "product") n (put_do (codes "correct") ms)) (texts_items_clean ts)
     (put_number_no_float (codes "product") n (put_do (codes "correct") ms) (do_clean (codes "correct") ms h))
 
 pub asked_no_float : (a : Asked) → members_have_float (asked_members a) ≡ false
 unfolding asked_members
 asked_no_float a =
-    let m0 : Members = put_request a.request no_members in
+    let m0 : Members = set_request a.request no_members in
     let h0 : Clean m0 = request_put a.request no_members refl in
-    put_number_no_float (codes "seq") a.seq (put_text (codes "desk") a.desk m0) (put_text_no_float (codes "desk") a.desk m0 h0)
+    put_number_no_float (codes "seq") a.seq (set_text (codes "desk") a.desk m0) (put_text_no_float (codes "desk") a.desk m0 h0)
 
 pub draft_no_float : (d : Draft) → members_have_float (draft_members d) ≡ false
 unfolding draft_members
 draft_no_float d =
-    let m0 : Members = put_number (codes "draft") d.id no_members in
+    let m0 : Members = set_number (codes "draft") d.id no_members in
     let h0 : Clean m0 = put_number_no_float (codes "draft") d.id no_members refl in
-    let m1 : Members = put_text (codes "category") (category_code d.category) m0 in
+    let m1 : Members = set_text (codes "category") (category_code d.category) m0 in
     let h1 : Clean m1 = put_text_no_float (codes "category") (category_code d.category) m0 h0 in
-    let m2 : Members = put_text (codes "owner") d.owner m1 in
+    let m2 : Members = set_text (codes "owner") d.owner m1 in
     let h2 : Clean m2 = put_text_no_float (codes "owner") d.owner m1 h1 in
-    let m3 : Members = put_text (codes "touched") (stamp_of d.touched) m2 in
+    let m3 : Members = set_text (codes "touched") (stamp_of d.touched) m2 in
     let h3 : Clean m3 = put_text_no_float (codes "touched") (stamp_of d.touched) m2 h2 in
     no_float_put (codes "intents") (array (intent_items d.intents)) m3 (mapped_no_float intent_data intent_clean d.intents) h3

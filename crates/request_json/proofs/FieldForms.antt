@@ -17,7 +17,7 @@ use Rattle.hazard_types.specs.Calendar.{stamp_at, is_digit}
 use Rattle.hazard_types.specs.Characters.{location_at, is_location}
 use Rattle.hazard_types.specs.Codes.{value_for_code, without_padding}
 use Rattle.office_types.specs.Desks.{is_desk_name}
-use Rattle.hazard_types.specs.Names.{hazard_at, sig_at, four_of, event_if, event_at, number_at as four_at}
+use Rattle.hazard_types.specs.Names.{hazard_at, sig_at, parse_four_digits, event_if, event_at, number_at as four_at}
 use Rattle.hazard_types.specs.Places.{is_capital}
 use Rattle.hazard_types.specs.Tables.{cause_rows}
 use Rattle.hazard_types.specs.declared.codes.Coded.{Coded}
@@ -89,8 +89,8 @@ hazard_form bytes h k =
     let m = map_some (sig_at (slice_index bytes 3)) (hazard_with bytes) h t.1 in
     subst IsHazard m.2 (all_two c0 c1 c.1 b.1, refl)
 
-four_most : (a b c d n : ℕ) → four_of a b c d ≡ Some n → n ≤ 9999
-unfolding four_of
+four_most : (a b c d n : ℕ) → parse_four_digits a b c d ≡ Some n → n ≤ 9999
+unfolding parse_four_digits
 four_most a b c d n h =
     let value = 1000 * (a - 48) + 100 * (b - 48) + 10 * (c - 48) + (d - 48) in
     let t = if_some (is_digit a && is_digit b && is_digit c && is_digit d) (Some value) n h in

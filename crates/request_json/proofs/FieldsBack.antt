@@ -32,7 +32,7 @@ use Rattle.hazard_types.proofs.Stamps.{stamp_spells}
 use Rattle.hazard_types.specs.Letters.{severity_code, status_code}
 use Rattle.json_parts.specs.Json.{zones_of, text_at}
 use Rattle.json_parts.specs.Written.{as_text}
-use Rattle.request_json.specs.Canonical.{put_source, put_times, zone_data, zone_items, texts_data, flood_data, event_texts_data, event_texts_items}
+use Rattle.request_json.specs.Canonical.{set_source, set_times, zone_data, zone_items, texts_data, flood_data, event_texts_data, event_texts_items}
 use Rattle.request_json.specs.Fields.{begin_at, end_at, desk_named, if_small, if_counted, number_at, site_in, severity_in, cause_in, time_in, status_in, values_in, flood_of, text_or_empty, free_text, four_texts, texts_of, event_texts_of, each_event_texts}
 use Rattle.request_json.specs.Formed.{IsMinute, IsNumber, IsHazard, IsEvent, AreTexts, AreEventTexts, AreFloodValues, IsBegin, IsEnd}
 use Rattle.request_json.specs.Pieces.{begin_bytes, end_bytes}
@@ -135,7 +135,7 @@ values_by d f site severity cause begin crest end status = rw (site, severity, c
 flood_values : (f : Flood) → AreFloodValues f → values_in (flood_data f) ≡ Some f
 unfolding flood_data
 flood_values f is =
-    let d = object (put (codes "status") (as_text (status_code f.status)) (put_times f (put_source f no_members))) in
+    let d = object (put (codes "status") (as_text (status_code f.status)) (set_times f (set_source f no_members))) in
     values_by d f
     (value_of (codes "site") f.site d location_at f.site refl (location_utf8 f.site is.site) (location_back f.site is.site))
     (value_of (codes "severity") (severity_code f.severity) d (value_for_code severity_rows) f.severity refl (severity_utf8 f.severity) (severity_found f.severity))
@@ -148,13 +148,13 @@ flood_values f is =
 if_known : {X : Type 0} (t : Bool) (o : Option X) (x : X) → t ≡ true → o ≡ Some x → cond t o None ≡ Some x
 if_known t o x known found = rw (known, found) refl
 
-flood_keys : (f : Flood) → all_known keys.Flood (put (codes "status") (as_text (status_code f.status)) (put_times f (put_source f no_members))) ≡ true
+flood_keys : (f : Flood) → all_known keys.Flood (put (codes "status") (as_text (status_code f.status)) (set_times f (set_source f no_members))) ≡ true
 unfolding has_key
 flood_keys f = refl
 
 pub flood_back : (f : Flood) → AreFloodValues f → flood_of (flood_data f) ≡ Some f
 unfolding flood_of flood_data
-flood_back f is = if_known (all_known keys.Flood (put (codes "status") (as_text (status_code f.status)) (put_times f (put_source f no_members)))) (values_in (flood_data f)) f (flood_keys f) (flood_values f is)
+flood_back f is = if_known (all_known keys.Flood (put (codes "status") (as_text (status_code f.status)) (set_times f (set_source f no_members)))) (values_in (flood_data f)) f (flood_keys f) (flood_values f is)
 
 -- ---- texts
 

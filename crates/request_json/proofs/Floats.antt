@@ -4,9 +4,9 @@ use Rattle.serde_json.specs.Data.{Data, Members, number}
 use Rattle.serde_json.specs.Find.{of_integer}
 use Rattle.office_types.specs.declared.refusal.Refusal.{Refusal}
 use Rattle.office_types.specs.declared.refusal.Refusal.TheVariants as refusal
-use Rattle.json_parts.specs.Written.{put_text, put_zone, labelled}
+use Rattle.json_parts.specs.Written.{set_text, set_zone, refusal_members}
 use Rattle.json_parts.proofs.Floats.{no_float_put, put_text_no_float, put_number_no_float, labelled_no_float}
-use Rattle.request_json.specs.Replies.{put_event_zone, put_clash, put_place_in, put_values}
+use Rattle.request_json.specs.Replies.{set_event_zone, set_clash, set_field_and_index, set_values}
 use Rattle.hazard_types.specs.Calendar.{stamp_of}
 use Rattle.hazard_types.specs.Hazards.{hazard_code}
 use Rattle.hazard_types.specs.Names.{zone_text, event_text}
@@ -19,22 +19,22 @@ signed_no_float : (z : ℤ) → has_float (number (of_integer z)) ≡ false
 signed_no_float (pos n) = refl
 signed_no_float (negsuc n) = refl
 
-zone_no_float : (z : Place) (ms : Members) → members_have_float ms ≡ false → members_have_float (put_zone z ms) ≡ false
+zone_no_float : (z : Place) (ms : Members) → members_have_float ms ≡ false → members_have_float (set_zone z ms) ≡ false
 zone_no_float z ms h = put_text_no_float (codes "zone") (zone_text z) ms h
 
-event_zone_no_float : (e : Event) (z : Place) (ms : Members) → members_have_float ms ≡ false → members_have_float (put_event_zone e z ms) ≡ false
-event_zone_no_float e z ms h = put_text_no_float (codes "event") (event_text e) (put_zone z ms) (zone_no_float z ms h)
+event_zone_no_float : (e : Event) (z : Place) (ms : Members) → members_have_float ms ≡ false → members_have_float (set_event_zone e z ms) ≡ false
+event_zone_no_float e z ms h = put_text_no_float (codes "event") (event_text e) (set_zone z ms) (zone_no_float z ms h)
 
-clash_no_float : (z : Place) (a b : Event) (ms : Members) → members_have_float ms ≡ false → members_have_float (put_clash z a b ms) ≡ false
+clash_no_float : (z : Place) (a b : Event) (ms : Members) → members_have_float ms ≡ false → members_have_float (set_clash z a b ms) ≡ false
 clash_no_float z a b ms h =
-    let one = put_text_no_float (codes "first") (event_text a) (put_zone z ms) (zone_no_float z ms h) in
-    put_text_no_float (codes "second") (event_text b) (put_text (codes "first") (event_text a) (put_zone z ms)) one
+    let one = put_text_no_float (codes "first") (event_text a) (set_zone z ms) (zone_no_float z ms h) in
+    put_text_no_float (codes "second") (event_text b) (set_text (codes "first") (event_text a) (set_zone z ms)) one
 
-place_no_float : (field : List ℕ) (at : ℕ) (ms : Members) → members_have_float ms ≡ false → members_have_float (put_place_in field at ms) ≡ false
-place_no_float field at ms h = put_number_no_float (codes "at") at (put_text (codes "field") field ms) (put_text_no_float (codes "field") field ms h)
+place_no_float : (field : List ℕ) (at : ℕ) (ms : Members) → members_have_float ms ≡ false → members_have_float (set_field_and_index field at ms) ≡ false
+place_no_float field at ms h = put_number_no_float (codes "at") at (set_text (codes "field") field ms) (put_text_no_float (codes "field") field ms h)
 
-values_no_float : (r : Refusal) (ms : Members) → members_have_float ms ≡ false → members_have_float (put_values r ms) ≡ false
-unfolding put_values
+values_no_float : (r : Refusal) (ms : Members) → members_have_float ms ≡ false → members_have_float (set_values r ms) ≡ false
+unfolding set_values
 values_no_float refusal.BadHead ms h = h
 values_no_float refusal.HeadTooLong ms h = h
 values_no_float refusal.NoRoute ms h = h
@@ -85,8 +85,8 @@ values_no_float (refusal.TooLong bytes) ms h = put_number_no_float (codes "bytes
 values_no_float refusal.ProductsFull ms h = h
 values_no_float refusal.JournalFull ms h = h
 
-pub refusal_no_float : (r : Refusal) (l : List ℕ × List ℕ) → members_have_float (put_values r (labelled l)) ≡ false
-refusal_no_float r l = values_no_float r (labelled l) (labelled_no_float l)
+pub refusal_no_float : (r : Refusal) (l : List ℕ × List ℕ) → members_have_float (set_values r (refusal_members l)) ≡ false
+refusal_no_float r l = values_no_float r (refusal_members l) (labelled_no_float l)
 
 -- ---- lists
 

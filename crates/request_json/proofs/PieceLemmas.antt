@@ -20,7 +20,7 @@ use Rattle.office_types.specs.declared.request.Target.TheVariants as target
 use Rattle.office_types.specs.declared.request.Texts.{Texts}
 use Rattle.office_types.specs.declared.request.Word.{Word}
 use Rattle.json_parts.specs.Written.{as_text}
-use Rattle.request_json.specs.Canonical.{texts_data, put_put, put_request, asked_members, asked_text}
+use Rattle.request_json.specs.Canonical.{texts_data, set_put, set_request, asked_members, asked_text}
 use Rattle.request_json.specs.Replies.{put_reply, reply_text, word_code}
 use Rattle.request_json.specs.Pieces.{is_plain, string_text, whole_text, zones_text, events_text, texts_text, begin_bytes, end_bytes, area_details, impacts_what, begin_desk, do_end, hazard_seq, texts_zones, draft_ok, place_end, events_ok, product_time}
 
@@ -92,7 +92,7 @@ issue_by : (b : Begin) (e : End) (desk : List ℕ) (seq : ℕ) (p : PutPart) (h 
     asked_text (record { desk = desk; seq = seq; request = request.Issue (record { target = target.Fresh h; zones = p.zones; begin = b; end = e; flood = None; texts = p.texts }) })
     ≡ codes "{\"begin\":" ++ (string_text (begin_bytes b) ++ (codes ",\"desk\":" ++ (string_text desk ++ (codes ",\"do\":" ++ (string_text (codes "issue") ++ (codes ",\"end\":" ++ (string_text (end_bytes e)
     ++ (codes ",\"hazard\":" ++ (string_text (hazard_code h) ++ (codes ",\"seq\":" ++ (whole_text seq ++ texts_zones p.texts p.zones)))))))))))
-unfolding asked_text asked_members put_request put_put string_text whole_text zones_text texts_text texts_zones escape_byte
+unfolding asked_text asked_members set_request set_put string_text whole_text zones_text texts_text texts_zones escape_byte
 issue_by begin.Now end.Ufn desk seq p h = refl
 issue_by begin.Now (end.At n) desk seq p h = refl
 issue_by (begin.At m) end.Ufn desk seq p h = refl

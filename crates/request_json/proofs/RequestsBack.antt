@@ -32,8 +32,8 @@ use Rattle.office_types.specs.declared.request.Target.TheVariants as target
 use Rattle.office_types.specs.declared.request.Texts.{Texts}
 use Rattle.hazard_types.proofs.NamesBack.{category_back}
 use Rattle.json_parts.specs.Json.{zones_of, given, zones_field}
-use Rattle.json_parts.specs.Written.{as_text, put_text}
-use Rattle.request_json.specs.Canonical.{zone_items, texts_data, flood_data, event_texts_items, put_begin, put_end, put_flood, put_target, put_zones_texts, put_put, put_event_part, put_routine, put_do, put_draft, put_request, asked_members, asked_text}
+use Rattle.json_parts.specs.Written.{as_text, set_text}
+use Rattle.request_json.specs.Canonical.{zone_items, texts_data, flood_data, event_texts_items, write_begin, write_end, set_flood, set_target, set_zones_texts, set_put, set_event_part, set_routine, put_do, put_draft, set_request, asked_members, asked_text}
 use Rattle.request_json.specs.Fields.{begin_at, end_at, desk_named, if_counted}
 use Rattle.request_json.specs.Form.{desk_field, seq_field, verb_field, category_field, number_field, hazard_field, event_field, begin_field, end_field, flood_or_none, flood_field, texts_or_empty, texts_field, event_texts_or_none, event_texts_field, target_given, target_field, put_on, issue_part, put_part, event_part, routine_part, draft_in, draft_request, request_in, asked_in, told, asked_of}
 use Rattle.request_json.specs.Formed.{IsNumber, IsHazard, IsEvent, AreTexts, AreEventTexts, AreFloodValues, IsBegin, IsEnd, IsTarget, IsFresh, IsPutPart, IsEventPart, IsRoutinePart, HasRequestForm, HasForm}
@@ -60,11 +60,11 @@ given_back o x name h = rw h refl
 
 -- ---- the fields of a part, wherever it stands
 
-begin_is : (b : Begin) (ms : Members) → put_begin b ms ≡ put_text (codes "begin") (begin_bytes b) ms
+begin_is : (b : Begin) (ms : Members) → write_begin b ms ≡ set_text (codes "begin") (begin_bytes b) ms
 begin_is begin.Now ms = refl
 begin_is (begin.At m) ms = refl
 
-end_is : (e : End) (ms : Members) → put_end e ms ≡ put_text (codes "end") (end_bytes e) ms
+end_is : (e : End) (ms : Members) → write_end e ms ≡ set_text (codes "end") (end_bytes e) ms
 end_is end.Ufn ms = refl
 end_is (end.At m) ms = refl
 
@@ -76,33 +76,33 @@ end_utf8 : (e : End) → IsEnd e → IsUtf8 (end_bytes e)
 end_utf8 end.Ufn h = IsUtf8-are_ascii _ refl
 end_utf8 (end.At m) h = stamp_utf8 m h
 
-flood_here : (o : Option Flood) (ms : Members) → get_member (codes "flood") ms ≡ None → get_member (codes "flood") (put_flood o ms) ≡ option_map flood_data o
+flood_here : (o : Option Flood) (ms : Members) → get_member (codes "flood") ms ≡ None → get_member (codes "flood") (set_flood o ms) ≡ option_map flood_data o
 flood_here None ms h = h
 flood_here (Some f) ms h = here (codes "flood") (flood_data f) ms
 
-beside_flood : (k : List ℕ) (o : Option Flood) (ms : Members) → AreApart k (codes "flood") → get_member k (put_flood o ms) ≡ get_member k ms
+beside_flood : (k : List ℕ) (o : Option Flood) (ms : Members) → AreApart k (codes "flood") → get_member k (set_flood o ms) ≡ get_member k ms
 beside_flood k None ms h = refl
 beside_flood k (Some f) ms h = beside k (codes "flood") (flood_data f) ms h
 
-beside_begin : (k : List ℕ) (b : Begin) (ms : Members) → AreApart k (codes "begin") → get_member k (put_begin b ms) ≡ get_member k ms
+beside_begin : (k : List ℕ) (b : Begin) (ms : Members) → AreApart k (codes "begin") → get_member k (write_begin b ms) ≡ get_member k ms
 beside_begin k b ms h = ap (get_member k) (begin_is b ms) ∙ beside k (codes "begin") (as_text (begin_bytes b)) ms h
 
-beside_end : (k : List ℕ) (e : End) (ms : Members) → AreApart k (codes "end") → get_member k (put_end e ms) ≡ get_member k ms
+beside_end : (k : List ℕ) (e : End) (ms : Members) → AreApart k (codes "end") → get_member k (write_end e ms) ≡ get_member k ms
 beside_end k e ms h = ap (get_member k) (end_is e ms) ∙ beside k (codes "end") (as_text (end_bytes e)) ms h
 
-beside_target : (k : List ℕ) (t : Target) (ms : Members) → AreApart k (codes "hazard") → AreApart k (codes "event") → get_member k (put_target t ms) ≡ get_member k ms
+beside_target : (k : List ℕ) (t : Target) (ms : Members) → AreApart k (codes "hazard") → AreApart k (codes "event") → get_member k (set_target t ms) ≡ get_member k ms
 beside_target k (target.Fresh h) ms hazard event = beside k (codes "hazard") (as_text (hazard_code h)) ms hazard
 beside_target k (target.Join e) ms hazard event = beside k (codes "event") (as_text (event_text e)) ms event
 
-beside_zones_texts : (k : List ℕ) (zs : List Place) (t : Texts) (ms : Members) → AreApart k (codes "texts") → AreApart k (codes "zones") → get_member k (put_zones_texts zs t ms) ≡ get_member k ms
+beside_zones_texts : (k : List ℕ) (zs : List Place) (t : Texts) (ms : Members) → AreApart k (codes "texts") → AreApart k (codes "zones") → get_member k (set_zones_texts zs t ms) ≡ get_member k ms
 beside_zones_texts k zs t ms texts zones = beside k (codes "texts") (texts_data t) (put (codes "zones") (array (zone_items zs)) ms) texts ∙ beside k (codes "zones") (array (zone_items zs)) ms zones
 
 -- ---- zones and texts
 
-zones_here : (zs : List Place) (t : Texts) (ms : Members) → get_member (codes "zones") (put_zones_texts zs t ms) ≡ Some (array (zone_items zs))
+zones_here : (zs : List Place) (t : Texts) (ms : Members) → get_member (codes "zones") (set_zones_texts zs t ms) ≡ Some (array (zone_items zs))
 zones_here zs t ms = beside (codes "zones") (codes "texts") (texts_data t) (put (codes "zones") (array (zone_items zs)) ms) refl ∙ here (codes "zones") (array (zone_items zs)) ms
 
-texts_here : (zs : List Place) (t : Texts) (ms : Members) → get_member (codes "texts") (put_zones_texts zs t ms) ≡ Some (texts_data t)
+texts_here : (zs : List Place) (t : Texts) (ms : Members) → get_member (codes "texts") (set_zones_texts zs t ms) ≡ Some (texts_data t)
 texts_here zs t ms = here (codes "texts") (texts_data t) (put (codes "zones") (array (zone_items zs)) ms)
 
 zones_read : (zs : List Place) (d : Data) → All IsPlace zs → get (codes "zones") d ≡ Some (array (zone_items zs)) → zones_field d ≡ Ok zs
@@ -156,27 +156,27 @@ abbrev HasMembers : Data → Members → Type 0
 HasMembers d ms = (k : List ℕ) → AreApart k (codes "seq") → AreApart k (codes "desk") → get k d ≡ get_member k ms
 
 -- under the members of a part
-below_times : (k : List ℕ) (p : PutPart) (ms : Members) → AreApart k (codes "flood") → AreApart k (codes "end") → AreApart k (codes "begin") → get_member k (put_flood p.flood (put_end p.end (put_begin p.begin ms))) ≡ get_member k ms
-below_times k p ms flood end begin = beside_flood k p.flood (put_end p.end (put_begin p.begin ms)) flood ∙ beside_end k p.end (put_begin p.begin ms) end ∙ beside_begin k p.begin ms begin
+below_times : (k : List ℕ) (p : PutPart) (ms : Members) → AreApart k (codes "flood") → AreApart k (codes "end") → AreApart k (codes "begin") → get_member k (set_flood p.flood (write_end p.end (write_begin p.begin ms))) ≡ get_member k ms
+below_times k p ms flood end begin = beside_flood k p.flood (write_end p.end (write_begin p.begin ms)) flood ∙ beside_end k p.end (write_begin p.begin ms) end ∙ beside_begin k p.begin ms begin
 
-below_part : (k : List ℕ) (p : PutPart) (ms : Members) → AreApart k (codes "flood") → AreApart k (codes "end") → AreApart k (codes "begin") → AreApart k (codes "texts") → AreApart k (codes "zones") → get_member k (put_put p ms) ≡ get_member k (put_target p.target ms)
-unfolding put_put
+below_part : (k : List ℕ) (p : PutPart) (ms : Members) → AreApart k (codes "flood") → AreApart k (codes "end") → AreApart k (codes "begin") → AreApart k (codes "texts") → AreApart k (codes "zones") → get_member k (set_put p ms) ≡ get_member k (set_target p.target ms)
+unfolding set_put
 below_part k p ms flood end begin texts zones =
-    below_times k p (put_zones_texts p.zones p.texts (put_target p.target ms)) flood end begin ∙ beside_zones_texts k p.zones p.texts (put_target p.target ms) texts zones
+    below_times k p (set_zones_texts p.zones p.texts (set_target p.target ms)) flood end begin ∙ beside_zones_texts k p.zones p.texts (set_target p.target ms) texts zones
 
-begin_here : (b : Begin) (ms : Members) → get_member (codes "begin") (put_begin b ms) ≡ Some (as_text (begin_bytes b))
+begin_here : (b : Begin) (ms : Members) → get_member (codes "begin") (write_begin b ms) ≡ Some (as_text (begin_bytes b))
 begin_here b ms = ap (get_member (codes "begin")) (begin_is b ms) ∙ here (codes "begin") (as_text (begin_bytes b)) ms
 
-end_here : (e : End) (ms : Members) → get_member (codes "end") (put_end e ms) ≡ Some (as_text (end_bytes e))
+end_here : (e : End) (ms : Members) → get_member (codes "end") (write_end e ms) ≡ Some (as_text (end_bytes e))
 end_here e ms = ap (get_member (codes "end")) (end_is e ms) ∙ here (codes "end") (as_text (end_bytes e)) ms
 
-part_has : (p : PutPart) (ms : Members) (d : Data) → HasMembers d (put_put p ms) → get_member (codes "flood") ms ≡ None → HasPart d p
-unfolding put_put
+part_has : (p : PutPart) (ms : Members) (d : Data) → HasMembers d (set_put p ms) → get_member (codes "flood") ms ≡ None → HasPart d p
+unfolding set_put
 part_has p ms d through none =
-    let m0 = put_target p.target ms in
-    let m1 = put_zones_texts p.zones p.texts m0 in
-    let m2 = put_begin p.begin m1 in
-    let m3 = put_end p.end m2 in
+    let m0 = set_target p.target ms in
+    let m1 = set_zones_texts p.zones p.texts m0 in
+    let m2 = write_begin p.begin m1 in
+    let m3 = write_end p.end m2 in
     let no_flood : get_member (codes "flood") m3 ≡ None = beside_end (codes "flood") p.end m2 refl ∙ beside_begin (codes "flood") p.begin m1 refl ∙ beside_zones_texts (codes "flood") p.zones p.texts m0 refl refl ∙ beside_target (codes "flood") p.target ms refl refl ∙ none in
     record {
       zones = through (codes "zones") refl refl ∙ below_times (codes "zones") p m1 refl refl refl ∙ zones_here p.zones p.texts m0;
@@ -189,7 +189,7 @@ part_has p ms d through none =
 target_by : (a b : Option Data) (d : Data) → get (codes "hazard") d ≡ a → get (codes "event") d ≡ b → target_field d ≡ target_given a b d
 target_by a b d h e = ap (λ (x : Option Data). target_given x (get (codes "event") d) d) h ∙ ap (λ (y : Option Data). target_given a y d) e
 
-target_read : (t : Target) (ms : Members) (d : Data) → IsTarget t → get (codes "hazard") d ≡ get_member (codes "hazard") (put_target t ms) → get (codes "event") d ≡ get_member (codes "event") (put_target t ms)
+target_read : (t : Target) (ms : Members) (d : Data) → IsTarget t → get (codes "hazard") d ≡ get_member (codes "hazard") (set_target t ms) → get (codes "event") d ≡ get_member (codes "event") (set_target t ms)
     → get_member (codes "hazard") ms ≡ None → get_member (codes "event") ms ≡ None → target_field d ≡ Ok t
 target_read (target.Fresh h) ms d is hazard event no_hazard no_event =
     let one : get (codes "hazard") d ≡ Some (as_text (hazard_code h)) = hazard ∙ here (codes "hazard") (as_text (hazard_code h)) ms in
@@ -200,17 +200,17 @@ target_read (target.Join e) ms d is hazard event no_hazard no_event =
     let two : get (codes "hazard") d ≡ None = hazard ∙ beside (codes "hazard") (codes "event") (as_text (event_text e)) ms refl ∙ no_hazard in
     target_by None (Some (as_text (event_text e))) d two one ∙ ap (λ (r : Result Event (List ℕ)). r >>= λ event. Ok (target.Join event)) (event_read e d is one)
 
-part_read : (p : PutPart) (ms : Members) (d : Data) → IsPutPart p → HasMembers d (put_put p ms) → get_member (codes "flood") ms ≡ None → get_member (codes "hazard") ms ≡ None → get_member (codes "event") ms ≡ None → put_part d ≡ Ok p
+part_read : (p : PutPart) (ms : Members) (d : Data) → IsPutPart p → HasMembers d (set_put p ms) → get_member (codes "flood") ms ≡ None → get_member (codes "hazard") ms ≡ None → get_member (codes "event") ms ≡ None → put_part d ≡ Ok p
 unfolding put_part
 part_read p ms d is through no_flood no_hazard no_event =
     let told = target_read p.target ms d is.target (through (codes "hazard") refl refl ∙ below_part (codes "hazard") p ms refl refl refl refl refl) (through (codes "event") refl refl ∙ below_part (codes "event") p ms refl refl refl refl refl) no_hazard no_event in
     rw told (put_read d p is (part_has p ms d through no_flood))
 
-fresh_read : (t : Target) (ms : Members) (d : Data) → IsTarget t → IsFresh t → get (codes "hazard") d ≡ get_member (codes "hazard") (put_target t ms) → (hazard_field d >>= λ hazard. put_on (target.Fresh hazard) d) ≡ put_on t d
+fresh_read : (t : Target) (ms : Members) (d : Data) → IsTarget t → IsFresh t → get (codes "hazard") d ≡ get_member (codes "hazard") (set_target t ms) → (hazard_field d >>= λ hazard. put_on (target.Fresh hazard) d) ≡ put_on t d
 fresh_read (target.Fresh h) ms d is fresh found = rw (hazard_read h d is (found ∙ here (codes "hazard") (as_text (hazard_code h)) ms)) refl
 fresh_read (target.Join e) ms d is fresh found = absurd fresh
 
-issue_read : (p : PutPart) (ms : Members) (d : Data) → IsPutPart p → IsFresh p.target → HasMembers d (put_put p ms) → get_member (codes "flood") ms ≡ None → issue_part d ≡ Ok p
+issue_read : (p : PutPart) (ms : Members) (d : Data) → IsPutPart p → IsFresh p.target → HasMembers d (set_put p ms) → get_member (codes "flood") ms ≡ None → issue_part d ≡ Ok p
 unfolding issue_part
 issue_read p ms d is fresh through no_flood =
     fresh_read p.target ms d is.target fresh (through (codes "hazard") refl refl ∙ below_part (codes "hazard") p ms refl refl refl refl refl) ∙ put_read d p is (part_has p ms d through no_flood)
@@ -231,32 +231,32 @@ routine_read p d is hazard zones texts = routine_by d p (hazard_read p.hazard d 
 
 -- ---- known keys
 
-known_flood : (ks : Keys) (o : Option Flood) (ms : Members) → has_key ks (codes "flood") ≡ true → all_known ks ms ≡ true → all_known ks (put_flood o ms) ≡ true
+known_flood : (ks : Keys) (o : Option Flood) (ms : Members) → has_key ks (codes "flood") ≡ true → all_known ks ms ≡ true → all_known ks (set_flood o ms) ≡ true
 known_flood ks None ms key h = h
 known_flood ks (Some f) ms key h = known_put ks (codes "flood") (flood_data f) ms key h
 
-known_begin : (ks : Keys) (b : Begin) (ms : Members) → has_key ks (codes "begin") ≡ true → all_known ks ms ≡ true → all_known ks (put_begin b ms) ≡ true
+known_begin : (ks : Keys) (b : Begin) (ms : Members) → has_key ks (codes "begin") ≡ true → all_known ks ms ≡ true → all_known ks (write_begin b ms) ≡ true
 known_begin ks b ms key h = ap (all_known ks) (begin_is b ms) ∙ known_put ks (codes "begin") (as_text (begin_bytes b)) ms key h
 
-known_end : (ks : Keys) (e : End) (ms : Members) → has_key ks (codes "end") ≡ true → all_known ks ms ≡ true → all_known ks (put_end e ms) ≡ true
+known_end : (ks : Keys) (e : End) (ms : Members) → has_key ks (codes "end") ≡ true → all_known ks ms ≡ true → all_known ks (write_end e ms) ≡ true
 known_end ks e ms key h = ap (all_known ks) (end_is e ms) ∙ known_put ks (codes "end") (as_text (end_bytes e)) ms key h
 
 known_part : (ks : Keys) (p : PutPart) (ms : Members) → has_key ks (codes "flood") ≡ true → has_key ks (codes "end") ≡ true → has_key ks (codes "begin") ≡ true → has_key ks (codes "texts") ≡ true → has_key ks (codes "zones") ≡ true
-    → all_known ks (put_target p.target ms) ≡ true → all_known ks (put_put p ms) ≡ true
-unfolding put_put
+    → all_known ks (set_target p.target ms) ≡ true → all_known ks (set_put p ms) ≡ true
+unfolding set_put
 known_part ks p ms flood end begin texts zones h =
-    let m0 = put_target p.target ms in
-    let m1 = put_zones_texts p.zones p.texts m0 in
-    let m2 = put_begin p.begin m1 in
+    let m0 = set_target p.target ms in
+    let m1 = set_zones_texts p.zones p.texts m0 in
+    let m2 = write_begin p.begin m1 in
     let k1 : all_known ks m1 ≡ true = known_put ks (codes "texts") (texts_data p.texts) (put (codes "zones") (array (zone_items p.zones)) m0) texts (known_put ks (codes "zones") (array (zone_items p.zones)) m0 zones h) in
-    known_flood ks p.flood (put_end p.end m2) flood (known_end ks p.end m2 end (known_begin ks p.begin m1 begin k1))
+    known_flood ks p.flood (write_end p.end m2) flood (known_end ks p.end m2 end (known_begin ks p.begin m1 begin k1))
 
-known_target : (t : Target) (ms : Members) → all_known keys.Put ms ≡ true → all_known keys.Put (put_target t ms) ≡ true
+known_target : (t : Target) (ms : Members) → all_known keys.Put ms ≡ true → all_known keys.Put (set_target t ms) ≡ true
 unfolding has_key
 known_target (target.Fresh h) ms known = known_put keys.Put (codes "hazard") (as_text (hazard_code h)) ms refl known
 known_target (target.Join e) ms known = known_put keys.Put (codes "event") (as_text (event_text e)) ms refl known
 
-known_fresh : (t : Target) (ms : Members) → IsFresh t → all_known keys.Issue ms ≡ true → all_known keys.Issue (put_target t ms) ≡ true
+known_fresh : (t : Target) (ms : Members) → IsFresh t → all_known keys.Issue ms ≡ true → all_known keys.Issue (set_target t ms) ≡ true
 unfolding has_key
 known_fresh (target.Fresh h) ms fresh known = known_put keys.Issue (codes "hazard") (as_text (hazard_code h)) ms refl known
 known_fresh (target.Join e) ms fresh known = absurd fresh
@@ -279,8 +279,8 @@ verb_of (request.Correct n ts) = verb.Correct
 word_read : (word : List ℕ) (v : Verb) (d : Data) → get (codes "do") d ≡ Some (as_text word) → are_ascii word ≡ true → verb_at word ≡ Some v → verb_field d ≡ Ok v
 word_read word v d found ascii reads = given_back _ v (codes "do") (value_of (codes "do") word d verb_at v found (IsUtf8-are_ascii word ascii) reads)
 
-verb_read : (r : Request) (d : Data) → HasMembers d (put_request r no_members) → verb_field d ≡ Ok (verb_of r)
-unfolding put_request put_event_part put_routine
+verb_read : (r : Request) (d : Data) → HasMembers d (set_request r no_members) → verb_field d ≡ Ok (verb_of r)
+unfolding set_request set_event_part set_routine
 verb_read (request.Begin c) d has = word_read (codes "open") verb.Open d (has (codes "do") refl refl) refl refl
 verb_read (request.Issue p) d has = word_read (codes "issue") verb.Issue d (has (codes "do") refl refl ∙ below_part (codes "do") p (put_do (codes "issue") no_members) refl refl refl refl refl ∙ beside_target (codes "do") p.target (put_do (codes "issue") no_members) refl refl) refl refl
 verb_read (request.Put n p) d has = word_read (codes "put") verb.Put d (has (codes "do") refl refl ∙ below_part (codes "do") p (put_do (codes "put") (put_draft n no_members)) refl refl refl refl refl ∙ beside_target (codes "do") p.target (put_do (codes "put") (put_draft n no_members)) refl refl) refl refl
@@ -299,8 +299,8 @@ category_read c d found = given_back _ c (codes "category") (value_of (codes "ca
 list_read : (ts : List EventTexts) (d : Data) → All AreEventTexts ts → get (codes "texts") d ≡ Some (array (event_texts_items ts)) → event_texts_field d ≡ Ok ts
 list_read ts d is found = given_back _ ts (codes "texts") (ap event_texts_or_none found ∙ list_back ts is)
 
-request_read : (r : Request) (d : Data) → HasRequestForm r → HasMembers d (put_request r no_members) → request_in (verb_of r) d ≡ Ok r
-unfolding put_request put_event_part put_routine request_in draft_request draft_in
+request_read : (r : Request) (d : Data) → HasRequestForm r → HasMembers d (set_request r no_members) → request_in (verb_of r) d ≡ Ok r
+unfolding set_request set_event_part set_routine request_in draft_request draft_in
 request_read (request.Begin c) d is has = rw (category_read c d (has (codes "category") refl refl)) refl
 request_read (request.Issue p) d is has = rw (issue_read p (put_do (codes "issue") no_members) d is.0 is.1 has refl) refl
 request_read (request.Put n p) d is has =
@@ -316,8 +316,8 @@ request_read (request.Discard n) d is has = rw (number_read (codes "draft") n d 
 request_read (request.Send n) d is has = rw (number_read (codes "draft") n d is (has (codes "draft") refl refl)) refl
 request_read (request.Correct n ts) d is has = rw (number_read (codes "product") n d is.0 (has (codes "product") refl refl), list_read ts d is.1 (has (codes "texts") refl refl)) refl
 
-request_known : (r : Request) → HasRequestForm r → all_known (keys_of (verb_of r)) (put_request r no_members) ≡ true
-unfolding put_request put_event_part put_routine has_key
+request_known : (r : Request) → HasRequestForm r → all_known (keys_of (verb_of r)) (set_request r no_members) ≡ true
+unfolding set_request set_event_part set_routine has_key
 request_known (request.Begin c) is = refl
 request_known (request.Issue p) is = known_part keys.Issue p (put_do (codes "issue") no_members) refl refl refl refl refl (known_fresh p.target (put_do (codes "issue") no_members) is.1 refl)
 request_known (request.Put n p) is = known_part keys.Put p (put_do (codes "put") (put_draft n no_members)) refl refl refl refl refl (known_target p.target (put_do (codes "put") (put_draft n no_members)) refl)
@@ -346,28 +346,28 @@ common_known verb.Correct = (refl, refl)
 
 -- ---- a request whole
 
-asked_has : (a : Asked) → HasMembers (object (asked_members a)) (put_request a.request no_members)
+asked_has : (a : Asked) → HasMembers (object (asked_members a)) (set_request a.request no_members)
 unfolding asked_members
-asked_has a k seq desk = beside k (codes "seq") (number (unsigned a.seq)) (put_text (codes "desk") a.desk (put_request a.request no_members)) seq ∙ beside k (codes "desk") (as_text a.desk) (put_request a.request no_members) desk
+asked_has a k seq desk = beside k (codes "seq") (number (unsigned a.seq)) (set_text (codes "desk") a.desk (set_request a.request no_members)) seq ∙ beside k (codes "desk") (as_text a.desk) (set_request a.request no_members) desk
 
 asked_known : (a : Asked) → HasRequestForm a.request → all_known (keys_of (verb_of a.request)) (asked_members a) ≡ true
 unfolding asked_members
 asked_known a is =
     let ks = keys_of (verb_of a.request) in
     let common = common_known (verb_of a.request) in
-    known_put ks (codes "seq") (number (unsigned a.seq)) (put_text (codes "desk") a.desk (put_request a.request no_members)) common.0 (known_put ks (codes "desk") (as_text a.desk) (put_request a.request no_members) common.1 (request_known a.request is))
+    known_put ks (codes "seq") (number (unsigned a.seq)) (set_text (codes "desk") a.desk (set_request a.request no_members)) common.0 (known_put ks (codes "desk") (as_text a.desk) (set_request a.request no_members) common.1 (request_known a.request is))
 
 desk_read : (a : Asked) → HasForm a → desk_field (object (asked_members a)) ≡ Ok a.desk
 unfolding asked_members
 desk_read a is =
-    let ms = put_request a.request no_members in
-    let found : get (codes "desk") (object (asked_members a)) ≡ Some (as_text a.desk) = beside (codes "desk") (codes "seq") (number (unsigned a.seq)) (put_text (codes "desk") a.desk ms) refl ∙ here (codes "desk") (as_text a.desk) ms in
+    let ms = set_request a.request no_members in
+    let found : get (codes "desk") (object (asked_members a)) ≡ Some (as_text a.desk) = beside (codes "desk") (codes "seq") (number (unsigned a.seq)) (set_text (codes "desk") a.desk ms) refl ∙ here (codes "desk") (as_text a.desk) ms in
     given_back _ a.desk (codes "desk") (value_of (codes "desk") a.desk (object (asked_members a)) desk_named a.desk found (desk_utf8 a.desk is.desk) (desk_back a.desk is.desk))
 
 seq_read : (a : Asked) → HasForm a → seq_field (object (asked_members a)) ≡ Ok a.seq
 unfolding asked_members
 seq_read a is =
-    let found : get (codes "seq") (object (asked_members a)) ≡ Some (number (unsigned a.seq)) = here (codes "seq") (number (unsigned a.seq)) (put_text (codes "desk") a.desk (put_request a.request no_members)) in
+    let found : get (codes "seq") (object (asked_members a)) ≡ Some (number (unsigned a.seq)) = here (codes "seq") (number (unsigned a.seq)) (set_text (codes "desk") a.desk (set_request a.request no_members)) in
     given_back _ a.seq (codes "seq") (ap (option_and_then if_counted) (number_back (codes "seq") a.seq (object (asked_members a)) found is.seq) ∙ counted_back a.seq is.counted)
 
 asked_by : (ms : Members) (a : Asked) (v : Verb) → desk_field (object ms) ≡ Ok a.desk → seq_field (object ms) ≡ Ok a.seq → verb_field (object ms) ≡ Ok v → request_in v (object ms) ≡ Ok a.request → all_known (keys_of v) ms ≡ true → asked_in (object ms) ≡ Ok a

@@ -6,11 +6,13 @@ ghost use Rattle.request_json.specs.Replies.{draft_members, draft_text};
 
 use crate::canonical::intent_value;
 use hazard_types::{Oom, Text, stamp};
-use json_parts::{Members, put, put_number, put_text, text_of_members};
+use json_parts::{Members, put, set_number, set_text, text_of_members};
 use office_types::{Draft, Intent};
 use serde_json::{Map, Value};
 use std::alloc::Global;
 
+/// Returns the intents as JSON objects, in order: each is the canonical request that adds the
+/// intent to a draft, without `desk`, `seq` and `draft`.
 fn intent_values(alloc: Global, intents: &[Intent]) -> Result<Vec<Value>, Oom>
     ensures { IfOk result (λ values. map view values.items ≡ map intent_data intents.now) }
 {
@@ -22,23 +24,24 @@ fn intent_values(alloc: Global, intents: &[Intent]) -> Result<Vec<Value>, Oom>
     Ok(values)
 }
 
+/// Returns the members of a draft's object: `category`, `draft`, `intents`, `owner` and `touched`.
 #[tactic(auto, unfolding(crate::specs::Replies::draft_members))]
 fn draft_members(alloc: Global, draft: &Draft) -> Result<Members, Oom>
     ensures { IfOk result (λ members. members_view members.entries ≡ draft_members draft.now) }
 {
     let mut members = Map::new(alloc);
-    put_number(alloc, &mut members, "draft", draft.id)?;
-    put_text(alloc, &mut members, "category", &draft.category.code())?;
-    put_text(alloc, &mut members, "owner", draft.owner.bytes())?;
-    put_text(alloc, &mut members, "touched", &stamp(draft.touched))?;
+    set_number(alloc, &mut members, "draft", draft.id)?;
+    set_text(alloc, &mut members, "category", &draft.category.code())?;
+    set_text(alloc, &mut members, "owner", draft.owner.bytes())?;
+    set_text(alloc, &mut members, "touched", &stamp(draft.touched))?;
     let intents = intent_values(alloc, draft.intents.as_slice())?;
     put(alloc, &mut members, "intents", Value::Array(intents))?;
     Ok(members)
 }
 
-/// Returns the text of a draft as compact JSON, keys in byte order: its category, number, intents,
-/// owner and the stamp of the minute at which it was touched. Each intent is its canonical request
-/// without desk, number and draft.
+/// Returns a draft as compact JSON, keys in byte order: its category, number, intents, owner and
+/// the stamp of the minute at which it was last touched. Each intent is the canonical request that
+/// adds it to the draft, without `desk`, `seq` and `draft`.
 ///
 /// # Errors
 ///

@@ -11,35 +11,38 @@ ghost use Rattle.request_json.specs.Fields.{begin_at, end_at, desk_named, if_cou
 use crate::keys::Keys;
 use hazard_types::{
     Begin, Cause, End, Event, Flood, List, Minute, Oom, Severity, Status, Text, find, parse_event,
-    parse_location, read_stamp, written_causes,
+    parse_location, parse_stamp, written_causes,
 };
 use json_parts::text_at;
 use office_types::{Desk, EventTexts, Texts};
 use serde_json::Value;
 use std::alloc::Global;
 
-/// Returns the begin that the text is, `now` or a stamp, or `None` if it is neither.
+/// Returns the begin that the text is: `now`, or a stamp such as `180103T1530Z` (UTC). `None` if it
+/// is neither.
 pub fn begin_of(text: &str) -> Option<Begin>
     ensures { result ≡ begin_at text.now }
 {
     if text == "now" {
         return Some(Begin::Now);
     }
-    let minute = read_stamp(text.as_bytes())?;
+    let minute = parse_stamp(text.as_bytes())?;
     Some(Begin::At(minute))
 }
 
-/// Returns the end that the text is, `ufn` or a stamp, or `None` if it is neither.
+/// Returns the end that the text is: `ufn` for until further notice, or a stamp such as
+/// `180104T0000Z` (UTC). `None` if it is neither.
 pub fn end_of(text: &str) -> Option<End>
     ensures { result ≡ end_at text.now }
 {
     match text {
         "ufn" => Some(End::Ufn),
-        _ => read_stamp(text.as_bytes()).map(End::At),
+        _ => parse_stamp(text.as_bytes()).map(End::At),
     }
 }
 
-/// Returns the member with this key if it is a whole number below 2^32.
+/// Returns the number in the member with this key of an object, or `None` if it is missing or not a
+/// whole number below 2^32.
 ///
 /// Source: docs/DECISIONS.md, "Requests" (whole numbers).
 pub fn number_at(value: &Value, key: &str) -> Option<u32>
@@ -57,27 +60,31 @@ pub fn number_at(value: &Value, key: &str) -> Option<u32>
     }
 }
 
-/// Returns the code of the location that the text is, or `None` if it is no such code.
+/// Returns the five characters of the code of an H-VTEC location, as `FDKM2`, or `None` if the text
+/// is not one.
 fn location_of(text: &str) -> Option<[u8; 5]>
     ensures { result ≡ location_at text.now }
 {
     parse_location(text.as_bytes())
 }
 
-/// Returns the minute of a stamp, `Some(None)` for `000000T0000Z`, or `None` if the text is
-/// neither.
+/// Returns the minute of a stamp such as `180103T1530Z`, `Some(None)` for `000000T0000Z`, or `None`
+/// if the text is neither.
 fn time_of(text: &str) -> Option<Option<Minute>>
     ensures { result ≡ time_at text.now }
 {
-    hazard_types::time_in(text.as_bytes())
+    hazard_types::parse_time(text.as_bytes())
 }
 
+/// Returns the location's code in the member `site`, or `None` if it is missing or not one.
 fn site_in(value: &Value) -> Option<[u8; 5]>
     ensures { result ≡ site_in (view value.now) }
 {
     text_at(value, "site").and_then(location_of)
 }
 
+/// Returns the flood severity whose code is the member `severity`, or `None` if it is missing or
+/// not one.
 fn severity_in(value: &Value) -> Option<Severity>
     ensures { result ≡ severity_in (view value.now) }
 {
@@ -85,7 +92,8 @@ fn severity_in(value: &Value) -> Option<Severity>
     Severity::from_code(text.as_bytes())
 }
 
-/// Returns the member `cause` if it is one of the causes that a request may name.
+/// Returns the flood cause whose code is the member `cause`, or `None` if it is missing or not one
+/// of the causes that a request may name.
 fn cause_in(value: &Value) -> Option<Cause>
     ensures { result ≡ cause_in (view value.now) }
 {
@@ -93,12 +101,16 @@ fn cause_in(value: &Value) -> Option<Cause>
     find(&written_causes(), text.as_bytes())
 }
 
+/// Returns the time in the member `key`: the minute of its stamp, or `Some(None)` for
+/// `000000T0000Z`. `None` if it is missing or neither.
 fn time_in(value: &Value, key: &str) -> Option<Option<Minute>>
     ensures { result ≡ time_in key.now (view value.now) }
 {
     text_at(value, key).and_then(time_of)
 }
 
+/// Returns the flood record status whose code is the member `status`, or `None` if it is missing or
+/// not one.
 fn status_in(value: &Value) -> Option<Status>
     ensures { result ≡ status_in (view value.now) }
 {
@@ -106,6 +118,8 @@ fn status_in(value: &Value) -> Option<Status>
     Status::from_code(text.as_bytes())
 }
 
+/// Returns the H-VTEC values of an object, or `None` if one of the seven is missing or wrong. Other
+/// keys are not looked at.
 #[tactic(auto, unfolding(crate::specs::Fields::values_in))]
 fn values_in(value: &Value) -> Option<Flood>
     ensures { result ≡ values_in (view value.now) }
@@ -130,7 +144,7 @@ pub fn flood_of(value: &Value) -> Option<Flood>
     ensures { result ≡ flood_of (view value.now) }
 {
     let members = value.as_object()?;
-    if Keys::Flood.know_all(members) {
+    if Keys::Flood.has_each_key(members) {
         values_in(value)
     } else {
         None
@@ -138,7 +152,7 @@ pub fn flood_of(value: &Value) -> Option<Flood>
 }
 
 /// Returns the member with this key if it is a string, the empty text if there is no such member,
-/// or `None` if it is no string.
+/// or `None` if it is another value.
 fn free_text(alloc: Global, value: &Value, key: &str) -> Result<Option<Text>, Oom>
     ensures { IfOk result (λ text. text ≡ free_text key.now (view value.now)) }
 {
@@ -151,6 +165,8 @@ fn free_text(alloc: Global, value: &Value, key: &str) -> Result<Option<Text>, Oo
     }
 }
 
+/// Returns the texts `what`, `area`, `impacts` and `details` of an object, or `None` if one of them
+/// is no string. An absent text is empty, and other keys are not looked at.
 #[tactic(auto, unfolding(crate::specs::Fields::four_texts))]
 fn four_texts(alloc: Global, value: &Value) -> Result<Option<Texts>, Oom>
     ensures { IfOk result (λ texts. texts ≡ four_texts (view value.now)) }
@@ -175,8 +191,8 @@ fn four_texts(alloc: Global, value: &Value) -> Result<Option<Texts>, Oom>
     }))
 }
 
-/// Returns the texts of an object, or `None` if one is no string, if a key is unknown, or if the
-/// value is no object. An absent text is empty.
+/// Returns the texts `what`, `area`, `impacts` and `details` of an object, or `None` if one is no
+/// string, if a key is unknown, or if the value is no object. An absent text is empty.
 ///
 /// # Errors
 ///
@@ -188,14 +204,15 @@ pub fn texts_of(alloc: Global, value: &Value) -> Result<Option<Texts>, Oom>
     let Some(members) = value.as_object() else {
         return Ok(None);
     };
-    if Keys::Texts.know_all(members) {
+    if Keys::Texts.has_each_key(members) {
         four_texts(alloc, value)
     } else {
         Ok(None)
     }
 }
 
-/// Returns the texts of the member `texts`, or `None` if it is missing or wrong.
+/// Returns the four texts in the member `texts`, or `None` if it is missing, is no object, or has
+/// an unknown key or a text that is no string.
 fn texts_within(alloc: Global, value: &Value) -> Result<Option<Texts>, Oom>
     ensures { IfOk result (λ texts. texts
         ≡ option_and_then texts_of (get (codes "texts") (view value.now))) }
@@ -206,7 +223,8 @@ fn texts_within(alloc: Global, value: &Value) -> Result<Option<Texts>, Oom>
     }
 }
 
-/// Returns the event of the member `event`, or `None` if it is missing or no event.
+/// Returns the event in the member `event`, as `WS.W.0001.2018`, or `None` if it is missing or no
+/// event.
 pub fn event_of(value: &Value) -> Option<Event>
     ensures { result ≡ option_and_then event_at (text_at (codes "event") (view value.now)) }
 {
@@ -214,8 +232,8 @@ pub fn event_of(value: &Value) -> Option<Event>
     parse_event(text.as_bytes())
 }
 
-/// Returns the event and the texts of an object, or `None` if one is missing or wrong, if a key is
-/// unknown, or if the value is no object.
+/// Returns the event and the texts of an object with the members `event` and `texts`, or `None` if
+/// one is missing or wrong, if a key is unknown, or if the value is no object.
 #[tactic(auto, unfolding(crate::specs::Fields::event_texts_of))]
 fn event_texts_of(alloc: Global, value: &Value) -> Result<Option<EventTexts>, Oom>
     ensures { IfOk result (λ texts. texts ≡ event_texts_of (view value.now)) }
@@ -223,7 +241,7 @@ fn event_texts_of(alloc: Global, value: &Value) -> Result<Option<EventTexts>, Oo
     let Some(members) = value.as_object() else {
         return Ok(None);
     };
-    if !Keys::EventTexts.know_all(members) {
+    if !Keys::EventTexts.has_each_key(members) {
         return Ok(None);
     }
     let Some(event) = event_of(value) else {
@@ -235,7 +253,8 @@ fn event_texts_of(alloc: Global, value: &Value) -> Result<Option<EventTexts>, Oo
     Ok(Some(EventTexts { event, texts }))
 }
 
-/// Returns the events with texts that the values are, or `None` if one is wrong.
+/// Returns the event and the texts that each value is, in order, or `None` if one of the values is
+/// not an object with the members `event` and `texts` and no others, or one of these is wrong.
 ///
 /// # Errors
 ///
@@ -253,14 +272,15 @@ pub fn each_event_texts(alloc: Global, values: &[Value]) -> Result<Option<List<E
     Ok(Some(list))
 }
 
-/// Returns the desk with this name, or `None` if the text is not a desk's name.
+/// Returns the desk with this name, or `None` if the text is not 1 to 16 characters of A-Z and 0-9.
 pub fn desk_of(text: &str) -> Option<Desk>
     ensures { result ≡ desk_named text.now }
 {
     Desk::new(text.as_bytes())
 }
 
-/// Returns the number of a request, or `None` if it is 0.
+/// Returns `number` if it may be the number that a desk gives its request, which is from 1 on, or
+/// `None` if it is 0.
 pub fn seq_of(number: u32) -> Option<u32>
     ensures { result ≡ if_counted number }
 {

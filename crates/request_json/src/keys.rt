@@ -42,7 +42,7 @@ pub enum Keys {
 }
 
 impl Verb {
-    /// Returns the verb that the word is, or `None` if it is not one.
+    /// Returns the verb that the word is, as `open` or `send`, or `None` if the word is no verb.
     pub fn from_word(word: &str) -> Option<Verb>
         ensures { result ≡ verb_at word.now }
     {
@@ -62,7 +62,7 @@ impl Verb {
         }
     }
 
-    /// Returns the keys that a request with this verb may have.
+    /// Returns the set of keys that a request with this verb may have.
     pub fn keys(self) -> Keys
         ensures { result ≡ keys_of self }
     {
@@ -79,49 +79,50 @@ impl Verb {
     }
 }
 
-/// Whether all requests may have the key.
+/// Whether requests of every kind may have the key: `desk`, `seq` or `do`.
 fn is_common(key: &str) -> bool
     ensures { result ≡ is_common key.now }
 {
     matches!(key, "desk" | "seq" | "do")
 }
 
-/// Whether all requests that put an event into zones may have the key.
+/// Whether both an `issue` and a `put` may have the key, apart from `desk`, `seq` and `do`.
 fn is_of_put(key: &str) -> bool
     ensures { result ≡ is_of_put key.now }
 {
     matches!(key, "zones" | "begin" | "end" | "flood" | "texts")
 }
 
-/// Whether an issue may have the key, apart from the common ones.
+/// Whether an `issue` may have the key, apart from `desk`, `seq` and `do`. A line of the training
+/// office may have these keys too.
 fn is_of_issue(key: &str) -> bool
     ensures { result ≡ is_of_issue key.now }
 {
     key == "hazard" || is_of_put(key)
 }
 
-/// Whether a put into a draft may have the key, apart from the common ones.
+/// Whether a put into a draft may have the key, apart from `desk`, `seq` and `do`.
 fn is_of_draft_put(key: &str) -> bool
     ensures { result ≡ is_of_draft_put key.now }
 {
     matches!(key, "draft" | "hazard" | "event") || is_of_put(key)
 }
 
-/// Whether an `end` or a `restate` may have the key, apart from the common ones.
+/// Whether an `end` or a `restate` may have the key, apart from `desk`, `seq` and `do`.
 fn is_of_event(key: &str) -> bool
     ensures { result ≡ is_of_event key.now }
 {
     matches!(key, "draft" | "event" | "zones" | "texts")
 }
 
-/// Whether a `routine` may have the key, apart from the common ones.
+/// Whether a `routine` may have the key, apart from `desk`, `seq` and `do`.
 fn is_of_routine(key: &str) -> bool
     ensures { result ≡ is_of_routine key.now }
 {
     matches!(key, "draft" | "hazard" | "zones" | "texts")
 }
 
-/// Whether H-VTEC values have the key.
+/// Whether the key is one of the seven of an object of H-VTEC values, as `site` or `crest`.
 fn is_of_flood(key: &str) -> bool
     ensures { result ≡ is_of_flood key.now }
 {
@@ -131,7 +132,8 @@ fn is_of_flood(key: &str) -> bool
     )
 }
 
-/// Whether texts may have the key.
+/// Whether the key is one of the four of an object of texts: `what`, `area`, `impacts` or
+/// `details`.
 fn is_of_texts(key: &str) -> bool
     ensures { result ≡ is_of_texts key.now }
 {
@@ -162,8 +164,8 @@ impl Keys {
         }
     }
 
-    /// Whether each key of the members is in the set.
-    pub fn know_all(self, members: &Map<String, Value>) -> bool
+    /// Whether each key of `members` is in the set.
+    pub fn has_each_key(self, members: &Map<String, Value>) -> bool
         ensures { result ≡ all_known self (members_view members.now.entries) }
     {
         members.keys().all(|key| self.has(key.as_str()))

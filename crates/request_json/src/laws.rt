@@ -7,13 +7,14 @@ ghost use Rattle.request_json.specs.Formed.{HasForm};
 
 use crate::asked::Asked;
 
-/// The canonical text of a request that has the form of a request is read as that request.
+/// Law: if a request has its values in their ranges and UTF-8 texts, reading its canonical text
+/// gives the same request, with the same desk and number.
 #[tactic(auto, using(crate::proofs::RequestsBack::text_reads_back))]
 pub fn canonical_texts_read_back()
     ensures { (a : Asked) → HasForm a → asked_of (asked_text a) ≡ Ok a }
 {}
 
-/// The canonical text of any request has no LF, so it is one line.
+/// Law: the canonical text of any request has no LF, so it is one line.
 #[tactic(auto, using(crate::proofs::CanonicalLines::asked_line))]
 pub fn canonical_texts_are_lines()
     ensures { (a : Asked) → All (λ (b : ℕ). b ≢ 10) (asked_text a) }

@@ -16,7 +16,7 @@ use crate::fields::{
     begin_of, desk_of, each_event_texts, end_of, event_of, flood_of, number_at, seq_of, texts_of,
 };
 use crate::keys::{Keys, Verb};
-use hazard_types::{Begin, Category, End, Event, Flood, Hazard, List, Oom, Or, Text, hazard_in};
+use hazard_types::{Begin, Category, End, Event, Flood, Hazard, List, Oom, Or, Text, parse_hazard};
 use json_parts::{given, read_json, text_at, wrong, zones_field};
 use office_types::{
     Desk, EventPart, EventTexts, PutPart, Refusal, Request, RoutinePart, Target, Texts,
@@ -24,18 +24,23 @@ use office_types::{
 use serde_json::{Map, Value};
 use std::alloc::Global;
 
+/// Returns the desk named in the field `desk`. Errs with `Or::No` and the field's name if it is
+/// missing or wrong.
 fn desk_field(alloc: Global, value: &Value) -> Result<Desk, Or<Text>>
     ensures { Gives result (desk_field (view value.now)) }
 {
     given(alloc, text_at(value, "desk").and_then(desk_of), "desk")
 }
 
+/// Returns the number in the field `seq`, from 1 on. Errs with `Or::No` and the field's name if it
+/// is missing or wrong.
 fn seq_field(alloc: Global, value: &Value) -> Result<u32, Or<Text>>
     ensures { Gives result (seq_field (view value.now)) }
 {
     given(alloc, number_at(value, "seq").and_then(seq_of), "seq")
 }
 
+/// Returns the verb that the member `do` is, as `open`, or `None` if it is missing or no verb.
 fn verb_of(value: &Value) -> Option<Verb>
     ensures { result ≡ option_and_then verb_at (text_at (codes "do") (view value.now)) }
 {
@@ -43,12 +48,16 @@ fn verb_of(value: &Value) -> Option<Verb>
     Verb::from_word(word)
 }
 
+/// Returns the verb in the field `do`. Errs with `Or::No` and the field's name if it is missing or
+/// wrong.
 fn verb_field(alloc: Global, value: &Value) -> Result<Verb, Or<Text>>
     ensures { Gives result (verb_field (view value.now)) }
 {
     given(alloc, verb_of(value), "do")
 }
 
+/// Returns the category in the member `category`, as `WSW`, or `None` if it is missing or no
+/// category.
 fn category_of(value: &Value) -> Option<Category>
     ensures { result
         ≡ option_and_then (value_for_code category_rows)
@@ -58,44 +67,56 @@ fn category_of(value: &Value) -> Option<Category>
     Category::from_code(text.as_bytes())
 }
 
+/// Returns the product category in the field `category`. Errs with `Or::No` and the field's name if
+/// it is missing or wrong.
 fn category_field(alloc: Global, value: &Value) -> Result<Category, Or<Text>>
     ensures { Gives result (category_field (view value.now)) }
 {
     given(alloc, category_of(value), "category")
 }
 
-/// Returns the number of a draft, a place or a product, below 2^32.
+/// Returns the number below 2^32 in the field `key`, which is `draft`, `place` or `product`. Errs
+/// with `Or::No` and the field's name if it is missing or wrong.
 fn number_field(alloc: Global, value: &Value, key: &str) -> Result<u32, Or<Text>>
     ensures { Gives result (number_field key.now (view value.now)) }
 {
     given(alloc, number_at(value, key), key)
 }
 
+/// Returns the hazard in the member `hazard`, as `WS.W`, or `None` if it is missing or no hazard.
 fn hazard_of(value: &Value) -> Option<Hazard>
     ensures { result ≡ option_and_then hazard_at (text_at (codes "hazard") (view value.now)) }
 {
     let text = text_at(value, "hazard")?;
-    hazard_in(text.as_bytes())
+    parse_hazard(text.as_bytes())
 }
 
+/// Returns the hazard in the field `hazard`, as `WS.W`. Errs with `Or::No` and the field's name if
+/// it is missing or wrong.
 fn hazard_field(alloc: Global, value: &Value) -> Result<Hazard, Or<Text>>
     ensures { Gives result (hazard_field (view value.now)) }
 {
     given(alloc, hazard_of(value), "hazard")
 }
 
+/// Returns the event in the field `event`, as `WS.W.0001.2018`. Errs with `Or::No` and the field's
+/// name if it is missing or wrong.
 fn event_field(alloc: Global, value: &Value) -> Result<Event, Or<Text>>
     ensures { Gives result (event_field (view value.now)) }
 {
     given(alloc, event_of(value), "event")
 }
 
+/// Returns the begin in the field `begin`, `now` or a stamp. Errs with `Or::No` and the field's
+/// name if it is missing or wrong.
 fn begin_field(alloc: Global, value: &Value) -> Result<Begin, Or<Text>>
     ensures { Gives result (begin_field (view value.now)) }
 {
     given(alloc, text_at(value, "begin").and_then(begin_of), "begin")
 }
 
+/// Returns the end in the field `end`, `ufn` or a stamp. Errs with `Or::No` and the field's name if
+/// it is missing or wrong.
 fn end_field(alloc: Global, value: &Value) -> Result<End, Or<Text>>
     ensures { Gives result (end_field (view value.now)) }
 {
@@ -103,7 +124,7 @@ fn end_field(alloc: Global, value: &Value) -> Result<End, Or<Text>>
 }
 
 /// Returns the H-VTEC values of the member `flood`, `Some(None)` if there is no such member, or
-/// `None` if it is wrong.
+/// `None` if it is no object of the seven values.
 fn flood_or_none(value: &Value) -> Option<Option<Flood>>
     ensures { result ≡ flood_or_none (get (codes "flood") (view value.now)) }
 {
@@ -116,14 +137,16 @@ fn flood_or_none(value: &Value) -> Option<Option<Flood>>
     }
 }
 
+/// Returns the H-VTEC values in the field `flood`, or `Ok(None)` if it is missing. Errs with
+/// `Or::No` and the field's name if it is wrong.
 fn flood_field(alloc: Global, value: &Value) -> Result<Option<Flood>, Or<Text>>
     ensures { Gives result (flood_field (view value.now)) }
 {
     given(alloc, flood_or_none(value), "flood")
 }
 
-/// Returns the texts of the member `texts`, empty ones if there is no such member, or `None` if it
-/// is wrong.
+/// Returns the four texts of the member `texts`, empty ones if there is no such member, or `None`
+/// if it is no object, or has an unknown key or a text that is no string.
 fn texts_or_empty(alloc: Global, value: &Value) -> Result<Option<Texts>, Oom>
     ensures { IfOk result (λ texts. texts ≡ texts_or_empty (get (codes "texts") (view value.now))) }
 {
@@ -138,6 +161,8 @@ fn texts_or_empty(alloc: Global, value: &Value) -> Result<Option<Texts>, Oom>
     }
 }
 
+/// Returns the four texts in the field `texts`, empty ones if it is missing. Errs with `Or::No` and
+/// the field's name if it is wrong.
 fn texts_field(alloc: Global, value: &Value) -> Result<Texts, Or<Text>>
     ensures { Gives result (texts_field (view value.now)) }
 {
@@ -145,8 +170,8 @@ fn texts_field(alloc: Global, value: &Value) -> Result<Texts, Or<Text>>
     given(alloc, texts, "texts")
 }
 
-/// Returns the texts of a correction, an empty list if there is no member `texts`, or `None` if it
-/// is wrong.
+/// Returns the events with their texts in the member `texts` of a correction, in order, an empty
+/// list if there is no such member, or `None` if it is wrong.
 fn event_texts_or_none(alloc: Global, value: &Value) -> Result<Option<List<EventTexts>>, Oom>
     ensures { IfOk result (λ texts. texts
         ≡ event_texts_or_none (get (codes "texts") (view value.now))) }
@@ -160,6 +185,8 @@ fn event_texts_or_none(alloc: Global, value: &Value) -> Result<Option<List<Event
     }
 }
 
+/// Returns the events with their texts in the field `texts` of a correction, in order, or an empty
+/// list if it is missing. Errs with `Or::No` and the field's name if it is wrong.
 fn event_texts_field(alloc: Global, value: &Value) -> Result<List<EventTexts>, Or<Text>>
     ensures { Gives result (event_texts_field (view value.now)) }
 {
@@ -167,8 +194,9 @@ fn event_texts_field(alloc: Global, value: &Value) -> Result<List<EventTexts>, O
     given(alloc, texts, "texts")
 }
 
-/// Returns the event that a put is on. If both or neither of `hazard` and `event` are there, the
-/// wrong field is `hazard`.
+/// Returns what a put is on: a new event of the hazard in the field `hazard`, or the event in the
+/// field `event`, which it joins. Errs with `Or::No` and the name of the wrong field, which is
+/// `hazard` if both or neither are there.
 ///
 /// Source: docs/DECISIONS.md, "Requests".
 fn target_field(alloc: Global, value: &Value) -> Result<Target, Or<Text>>
@@ -181,6 +209,8 @@ fn target_field(alloc: Global, value: &Value) -> Result<Target, Or<Text>>
     }
 }
 
+/// Returns the put on `target` from the fields `zones`, `begin`, `end`, `flood` and `texts`. Errs
+/// with `Or::No` and the name of the first of them that is wrong, or missing where it may not be.
 #[tactic(auto, unfolding(crate::specs::Form::put_on))]
 fn put_on(alloc: Global, target: Target, value: &Value) -> Result<PutPart, Or<Text>>
     ensures { Gives result (put_on target (view value.now)) }
@@ -195,6 +225,8 @@ fn put_on(alloc: Global, target: Target, value: &Value) -> Result<PutPart, Or<Te
     })
 }
 
+/// Returns the put of an `issue`, which opens an event of the hazard in the field `hazard`. Errs
+/// with `Or::No` and the name of the first field that is missing or wrong.
 #[tactic(auto, unfolding(crate::specs::Form::issue_part))]
 fn issue_part(alloc: Global, value: &Value) -> Result<PutPart, Or<Text>>
     ensures { Gives result (issue_part (view value.now)) }
@@ -203,6 +235,9 @@ fn issue_part(alloc: Global, value: &Value) -> Result<PutPart, Or<Text>>
     put_on(alloc, Target::Fresh(hazard), value)
 }
 
+/// Returns the put of a `put`, which opens an event of the hazard in the field `hazard` or joins
+/// the event in the field `event`. Errs with `Or::No` and the name of the first field that is
+/// missing or wrong.
 #[tactic(auto, unfolding(crate::specs::Form::put_part))]
 fn put_part(alloc: Global, value: &Value) -> Result<PutPart, Or<Text>>
     ensures { Gives result (put_part (view value.now)) }
@@ -211,6 +246,8 @@ fn put_part(alloc: Global, value: &Value) -> Result<PutPart, Or<Text>>
     put_on(alloc, target, value)
 }
 
+/// Returns the event, the zones and the texts of an `end` or a `restate`. Errs with `Or::No` and
+/// the name of the first of these fields that is missing or wrong.
 #[tactic(auto, unfolding(crate::specs::Form::event_part))]
 fn event_part(alloc: Global, value: &Value) -> Result<EventPart, Or<Text>>
     ensures { Gives result (event_part (view value.now)) }
@@ -225,6 +262,8 @@ fn event_part(alloc: Global, value: &Value) -> Result<EventPart, Or<Text>>
     })
 }
 
+/// Returns the hazard, the zones and the texts of a `routine`. Errs with `Or::No` and the name of
+/// the first of these fields that is missing or wrong.
 #[tactic(auto, unfolding(crate::specs::Form::routine_part))]
 fn routine_part(alloc: Global, value: &Value) -> Result<RoutinePart, Or<Text>>
     ensures { Gives result (routine_part (view value.now)) }
@@ -239,7 +278,9 @@ fn routine_part(alloc: Global, value: &Value) -> Result<RoutinePart, Or<Text>>
     })
 }
 
-/// Returns the request on a draft, from the fields that follow `draft`.
+/// Returns the request on draft number `draft` from the other fields of the request. Errs with
+/// `Or::No` and the name of the first of them that is missing or wrong. `verb` is one that works on
+/// a draft; one that does not is taken as `send`.
 #[tactic(auto, unfolding(crate::specs::Form::draft_in))]
 fn draft_in(alloc: Global, verb: Verb, draft: u32, value: &Value) -> Result<Request, Or<Text>>
     ensures { Gives result (draft_in verb draft (view value.now)) }
@@ -256,7 +297,9 @@ fn draft_in(alloc: Global, verb: Verb, draft: u32, value: &Value) -> Result<Requ
     }
 }
 
-/// Returns the request on a draft, from its field `draft` and those that follow.
+/// Returns the request on a draft from the field `draft` and those that its verb has beside it.
+/// Errs with `Or::No` and the name of the first of them that is missing or wrong. `verb` is one
+/// that works on a draft.
 #[tactic(auto, unfolding(crate::specs::Form::draft_request))]
 fn draft_request(alloc: Global, verb: Verb, value: &Value) -> Result<Request, Or<Text>>
     ensures { Gives result (draft_request verb (view value.now)) }
@@ -265,7 +308,8 @@ fn draft_request(alloc: Global, verb: Verb, value: &Value) -> Result<Request, Or
     draft_in(alloc, verb, draft, value)
 }
 
-/// Returns the request, from the fields that follow `do`.
+/// Returns the request with this verb from the fields that its kind has beside `desk`, `seq` and
+/// `do`. Errs with `Or::No` and the name of the first of them that is missing or wrong.
 #[tactic(auto, unfolding(crate::specs::Form::request_in))]
 fn request_in(alloc: Global, verb: Verb, value: &Value) -> Result<Request, Or<Text>>
     ensures { Gives result (request_in verb (view value.now)) }
@@ -281,7 +325,8 @@ fn request_in(alloc: Global, verb: Verb, value: &Value) -> Result<Request, Or<Te
     }
 }
 
-/// Returns the value that was read, or `?` if a key is unknown.
+/// Returns `read`, the value that was read, if each key of `members` is in the set `keys`. Errs
+/// with `Or::No` and `?`, in place of a field's name, if one is not.
 fn known<T: Drop>(
     alloc: Global,
     keys: Keys,
@@ -292,15 +337,16 @@ fn known<T: Drop>(
         then Ok read
         else Err (codes "?")) }
 {
-    if keys.know_all(members) {
+    if keys.has_each_key(members) {
         Ok(read)
     } else {
         wrong(alloc, "?")
     }
 }
 
-/// Returns the request that a JSON value is, with its desk and number, or the name of the first
-/// field that is missing or wrong.
+/// Returns the request that a JSON value is, with its desk and number. Errs with `Or::No` and the
+/// name of the first field that is missing or wrong: `.` if the value is no object, `?` for an
+/// unknown key.
 #[tactic(auto, unfolding(crate::specs::Form::asked_in))]
 fn asked_in(alloc: Global, value: &Value) -> Result<Asked, Or<Text>>
     ensures { Gives result (asked_in (view value.now)) }
@@ -315,7 +361,8 @@ fn asked_in(alloc: Global, value: &Value) -> Result<Asked, Or<Text>>
     known(alloc, verb.keys(), members, Asked { desk, seq, request })
 }
 
-/// Returns what was read, or `WrongShape` with the name of the field that is missing or wrong.
+/// Returns the value in `read`, or errs with the refusal `WrongShape` for the field whose name
+/// `read` has, which is missing or wrong. Out of memory stays as it is.
 fn told<T: Drop>(read: Result<T, Or<Text>>) -> Result<T, Or<Refusal>>
     ensures exact { (answer : Result T (List ℕ)) → Gives read answer → Gives result (told answer) }
     ensures kept { IfOk result (λ found. read ≡ Ok found) }
@@ -327,8 +374,8 @@ fn told<T: Drop>(read: Result<T, Or<Text>>) -> Result<T, Or<Refusal>>
     }
 }
 
-/// Returns the request that the bytes are, with its desk and number. It has the form of a request:
-/// its values are in their ranges, and its texts are UTF-8.
+/// Parses bytes as a request in JSON, and returns it with its desk and number. Its values are in
+/// their ranges, and its texts are UTF-8.
 ///
 /// # Errors
 ///
@@ -347,6 +394,7 @@ pub fn read_request(alloc: Global, bytes: &[u8]) -> Result<Asked, Or<Refusal>>
     }
 }
 
+/// Whether the value of the field `do` is `issue`.
 fn is_issue(value: &Value) -> bool
     ensures { result ≡ is_issue (text_at (codes "do") (view value.now)) }
 {
@@ -356,8 +404,9 @@ fn is_issue(value: &Value) -> bool
     }
 }
 
-/// Returns the put of an issue without desk and number, or the name of the first field that is
-/// missing or wrong.
+/// Returns the put of an issue without desk and number. Errs with `Or::No` and the name of the
+/// first field that is missing or wrong: `.` if the value is no object, `do` if it is no issue, `?`
+/// for an unknown key.
 #[tactic(auto, unfolding(crate::specs::Form::training_issue_in))]
 fn training_issue_in(alloc: Global, value: &Value) -> Result<PutPart, Or<Text>>
     ensures { Gives result (training_issue_in (view value.now)) }
@@ -372,7 +421,8 @@ fn training_issue_in(alloc: Global, value: &Value) -> Result<PutPart, Or<Text>>
     known(alloc, Keys::Training, members, part)
 }
 
-/// Returns the put of an issue without desk and number: `desk` and `seq` are unknown keys.
+/// Returns the put of the issue that a line of the training office is. Such a line is an `issue`
+/// request without desk and number, in which `desk` and `seq` are unknown keys.
 ///
 /// # Errors
 ///

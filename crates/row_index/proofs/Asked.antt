@@ -10,7 +10,7 @@ use Rattle.hazard_types.specs.Hazards.{facts_of}
 use Rattle.event_life.specs.Higher.{family_of}
 use Rattle.event_life.specs.Lives.{opens}
 use Rattle.event_life.specs.Periods.{is_live, same_at}
-use Rattle.std.specs.Option.{is_none}
+use Rattle.std.specs.Option.{is_none, is_some}
 use Rattle.hazard_types.specs.declared.codes.Action.{Action}
 use Rattle.hazard_types.specs.declared.codes.Action.TheVariants.{New, Con, Exa, Ext, Exb, Upg, Can, Exp, Cor, Rou}
 use Rattle.hazard_types.specs.declared.line.Line.{Line}
@@ -19,8 +19,8 @@ use Rattle.event_life.specs.declared.life.Life.{Life}
 use Rattle.event_life.specs.declared.life.Around.{Around}
 use Rattle.event_life.specs.declared.life.Breach.{Breach}
 use Rattle.event_life.specs.declared.life.Breach.TheVariants.{Twice}
-use Rattle.event_life.specs.Products.{has_rows, is_open, is_held, has_same, around_but_higher, life_at, is_routine, is_upgrade, is_second, has_higher, around_of, breach_in, put, row_at, row_after, rows_after_all_but_upgrades, judged_from}
-use Rattle.event_life.specs.Seats.{may_count}
+use Rattle.event_life.specs.Products.{has_rows, is_open, is_number_held, has_opened_period, around_but_higher, life_at, is_routine, is_upgrade, is_second, has_higher, around_of, breach_in, put, row_at, row_after, rows_after_all_but_upgrades, judged_from}
+use Rattle.event_life.specs.Seats.{may_be_higher}
 use Rattle.event_life.specs.Table.{opened_period, first_of, on_new, on_joining, on_life, on_nothing, breach_of_line, life_after_lawful_line, unless_breach, step}
 use Rattle.event_life.proofs.HigherLemmas.{breach-higher}
 use Rattle.row_index.specs.Seating.{upgrades}
@@ -50,9 +50,9 @@ not_going going same h = ap not (same_going going same h)
 
 module _ (rows : List Row) (line : Line) (t : ℕ) (higher : Bool) where
   on_life-asked : (a : Action) (life : Life) → first_of (on_life a life line t (asked_around a rows t line higher)) ≡ first_of (on_life a life line t (around_but_higher rows t line higher))
-  on_life-asked New life = new_asks (not life.ended) (has_rows rows line.event) (is_open rows t line.event) (is_held rows t line.event) (has_same rows t line) higher line t
-  on_life-asked Exa life = joining_asks (not life.ended) (is_open rows t line.event) false false (is_open rows t line.event && has_same rows t line) (has_rows rows line.event) (is_held rows t line.event) (has_same rows t line) higher _ line t _ _ (not_going (is_open rows t line.event) (has_same rows t line))
-  on_life-asked Exb life = joining_asks (not life.ended) (is_open rows t line.event) false false (is_open rows t line.event && has_same rows t line) (has_rows rows line.event) (is_held rows t line.event) (has_same rows t line) higher _ line t _ _ (same_going (is_open rows t line.event) (has_same rows t line))
+  on_life-asked New life = new_asks (not life.ended) (has_rows rows line.event) (is_open rows t line.event) (is_number_held rows t line.event) (has_opened_period rows t line) higher line t
+  on_life-asked Exa life = joining_asks (not life.ended) (is_open rows t line.event) false false (is_open rows t line.event && has_opened_period rows t line) (has_rows rows line.event) (is_number_held rows t line.event) (has_opened_period rows t line) higher _ line t _ _ (not_going (is_open rows t line.event) (has_opened_period rows t line))
+  on_life-asked Exb life = joining_asks (not life.ended) (is_open rows t line.event) false false (is_open rows t line.event && has_opened_period rows t line) (has_rows rows line.event) (is_number_held rows t line.event) (has_opened_period rows t line) higher _ line t _ _ (same_going (is_open rows t line.event) (has_opened_period rows t line))
   on_life-asked Con life = refl
   on_life-asked Ext life = refl
   on_life-asked Upg life = refl
@@ -62,9 +62,9 @@ module _ (rows : List Row) (line : Line) (t : ℕ) (higher : Bool) where
   on_life-asked Rou life = refl
 
   on_nothing-asked : (a : Action) → first_of (on_nothing a line t (asked_around a rows t line higher)) ≡ first_of (on_nothing a line t (around_but_higher rows t line higher))
-  on_nothing-asked New = new_asks false (has_rows rows line.event) (is_open rows t line.event) (is_held rows t line.event) (has_same rows t line) higher line t
-  on_nothing-asked Exa = joining_asks false (is_open rows t line.event) false false (is_open rows t line.event && has_same rows t line) (has_rows rows line.event) (is_held rows t line.event) (has_same rows t line) higher _ line t _ _ (not_going (is_open rows t line.event) (has_same rows t line))
-  on_nothing-asked Exb = joining_asks false (is_open rows t line.event) false false (is_open rows t line.event && has_same rows t line) (has_rows rows line.event) (is_held rows t line.event) (has_same rows t line) higher _ line t _ _ (same_going (is_open rows t line.event) (has_same rows t line))
+  on_nothing-asked New = new_asks false (has_rows rows line.event) (is_open rows t line.event) (is_number_held rows t line.event) (has_opened_period rows t line) higher line t
+  on_nothing-asked Exa = joining_asks false (is_open rows t line.event) false false (is_open rows t line.event && has_opened_period rows t line) (has_rows rows line.event) (is_number_held rows t line.event) (has_opened_period rows t line) higher _ line t _ _ (not_going (is_open rows t line.event) (has_opened_period rows t line))
+  on_nothing-asked Exb = joining_asks false (is_open rows t line.event) false false (is_open rows t line.event && has_opened_period rows t line) (has_rows rows line.event) (is_number_held rows t line.event) (has_opened_period rows t line) higher _ line t _ _ (same_going (is_open rows t line.event) (has_opened_period rows t line))
   on_nothing-asked Con = refl
   on_nothing-asked Ext = refl
   on_nothing-asked Upg = refl
@@ -101,7 +101,7 @@ step_err rows line t higher before around breach before_is around_is h =
 -- lines that open a spell alike
 
 alike_by : (a : Action) (rows : List Row) (t : ℕ) (l m : Line) (higher : Bool) → l.event ≡ m.event → opened_period l t ≡ opened_period m t → asked_around a rows t l higher ≡ asked_around a rows t m higher
-alike_by New rows t l m higher event_is period_is = λ i. around (has_rows rows (event_is i)) false (not (has_rows rows (event_is i)) && is_held rows t (event_is i)) false higher
+alike_by New rows t l m higher event_is period_is = λ i. around (has_rows rows (event_is i)) false (not (has_rows rows (event_is i)) && is_number_held rows t (event_is i)) false higher
 alike_by Exa rows t l m higher event_is period_is =
     λ i. around false (is_open rows t (event_is i)) false (is_open rows t (event_is i) && list_any (λ (r : Row). same_event r.event (event_is i) && is_live t r && same_at t r.period (period_is i)) rows) higher
 alike_by Exb rows t l m higher event_is period_is =
@@ -186,6 +186,12 @@ upgrade_made rows t lines earlier line second higher higher_is second_is =
     first_made rows t lines earlier line second higher second_is (ap (λ (b : Bool). breach_of_line (life_at rows line) line t (around_but_higher rows t line b)) higher_is)
 
 -- whether a line may count
+pub none_told : {X : Type 0} (o : Option X) (none : Bool) → is_some o ≡ not none → none ≡ is_none o
+none_told None true h = refl
+none_told None false h = cc
+none_told (Some x) true h = cc
+none_told (Some x) false h = refl
+
 pub neither : (a b c : Bool) → a ≡ false → b ≡ false → c ≡ (not a && not b && c)
 neither true b c h g = cc
 neither false true c h g = cc
@@ -221,7 +227,7 @@ pub counted_next : (rows : List Row) (t : ℕ) (lines : List Line) (es next all 
 counted_next rows t lines es next all i line second lawful row lt is second_is lawful_is row_is made h =
     let rest = drop (i + 1) lines in
     let breach = breach_of_line (life_at rows line) line t (around_but_higher rows t line true) in
-    let counts_so : (not second && lawful) ≡ may_count rows t (take i lines) line =
+    let counts_so : (not second && lawful) ≡ may_be_higher rows t (take i lines) line =
     ap (λ (b : Bool). not second && b) lawful_is ∙ may_count_is (is_routine line.action) (is_upgrade line.action) second breach
     ∙ ap (λ (b : Bool). not (is_routine line.action) && not (is_upgrade line.action) && not b && is_none breach) second_is in
     ap (λ (earlier : List Line). rows_after_all_but_upgrades rows t earlier rest next) (one_longer lines i line lt is)

@@ -18,14 +18,14 @@ use Rattle.hazard_types.proofs.Equality.{zone_one}
 use Rattle.event_life.specs.Higher.{family_of, is_above, may_yield, outranks}
 use Rattle.event_life.specs.Periods.{is_live, overlaps}
 use Rattle.event_life.specs.Products.{by_key, put, row_at, row_after, is_routine, is_upgrade, concerns, rows_after_all_but_upgrades, end_upgraded, rows_for_higher, is_overlapped, has_higher}
-use Rattle.event_life.specs.Seats.{may_count, is_upgraded}
+use Rattle.event_life.specs.Seats.{may_be_higher, is_upgraded}
 use Rattle.event_life.proofs.Members.{any_in, find_in, in_any, one_way}
 use Rattle.event_life.proofs.Puts.{at_key, at_key-parts, row_at-put, put-sorted}
 use Rattle.row_index.specs.declared.seats.Seat.{Seat}
 use Rattle.row_index.specs.Numbers.{is_in_zone}
 use Rattle.row_index.specs.Seating.{by_seat, seat_of, key_of_line, has_seat, upgrades}
 use Rattle.row_index.specs.Steps as index
-use Rattle.row_index.specs.Steps.{AreHigher, IsChanged, rises_over, stays_over, is_free, still_over}
+use Rattle.row_index.specs.Steps.{AreHigher, IsChanged, rises_over, stays_over, is_untouched, still_over}
 use Rattle.row_index.specs.Telling.{Tells}
 use Rattle.row_index.proofs.Seated.{seat_tied}
 use Rattle.row_index.proofs.Tests.{and_true, and_false, any_same, any_filtered, any_put, at_itself, but, found_own}
@@ -94,7 +94,7 @@ over_all : (before : List Row) (t : ℕ) (earlier lines : List Line) (es rows af
     → Over (rows_after_all_but_upgrades before t earlier lines es) rows (rows_after_all_but_upgrades before t earlier lines after)
 over_all before t earlier [] es rows after up up_after over = over
 over_all before t earlier (line ∷ lines) es rows after up up_after over =
-    let b = may_count before t earlier line in
+    let b = may_be_higher before t earlier line in
     let row = row_after before t line in
     over_all before t (earlier ++ line ∷ []) lines (counted b row es) rows (counted b row after) (counted-sorted b row es up) (counted-sorted b row after up_after) (over_counted b row es rows after up up_after over)
 
@@ -177,10 +177,10 @@ still-told rows t low counted seats own higher up are =
     ∙ sym (any_filtered p (is_in_zone own.zone) rows)
 
 -- in its own zone
-free_there : (counted : List Row) (seats : List Seat) (own r : Row) (x : Bool) (b : Bool) → is_in_zone own.zone r ≡ b → (b && (x && is_free counted seats own.zone r.event)) ≡ ((b && (x && not (has_seat seats (seat_of r)))) && in_place counted r)
+free_there : (counted : List Row) (seats : List Seat) (own r : Row) (x : Bool) (b : Bool) → is_in_zone own.zone r ≡ b → (b && (x && is_untouched counted seats own.zone r.event)) ≡ ((b && (x && not (has_seat seats (seat_of r)))) && in_place counted r)
 free_there counted seats own r x false h = refl
 free_there counted seats own r x true h =
-    ap (λ (z : Place). x && is_free counted seats z r.event) (sym (zone_one r.zone own.zone h))
+    ap (λ (z : Place). x && is_untouched counted seats z r.event) (sym (zone_one r.zone own.zone h))
     ∙ and_assoc x (not (has_seat seats (seat_of r))) (in_place counted r)
 
 none_is : (o : Option (Family × ℕ)) → is_none o ≡ not (is_some o)

@@ -16,7 +16,7 @@ use Rattle.row_index.specs.declared.standing.Standing.{Standing}
 use Rattle.row_index.specs.Runs.{rows_along}
 use Rattle.row_index.specs.Sharing.{life_at, lives_put, lives_told, row_with, rows_put, rows_with, rows_told, AreShared, HaveEvent, IsPlaced}
 use Rattle.row_index.specs.Standings.{restood, stands_so, AreEventRows, IsRunPut, AreCounts}
-use Rattle.row_index.specs.Steps.{put_each}
+use Rattle.row_index.specs.Steps.{add_each}
 use Rattle.row_index.specs.Tallies.{one, one_of, owed, passes, tally, times, AreTallied, IsTallied}
 use Rattle.row_index.specs.Zoning.{AreOf, AreZoned}
 use Rattle.row_index.proofs.EventRows.{of-first}
@@ -113,11 +113,11 @@ all_kept : (e : Event) (l : Life) (zones : List Place) (es : List (Place × Row)
 all_kept e l [] es kept = kept
 all_kept e l (z ∷ zones) es kept = all_kept e l zones (insert_entry by_place es z (row_with e z l)) (kept_put e l z es kept)
 
-put_values : (e : Event) (l : Life) (zones : List Place) (es : List (Place × Row)) → Kept e es → values_of (rows_put e l zones es) ≡ put_each (rows_along e l zones) (values_of es)
+put_values : (e : Event) (l : Life) (zones : List Place) (es : List (Place × Row)) → Kept e es → values_of (rows_put e l zones es) ≡ add_each (rows_along e l zones) (values_of es)
 put_values e l [] es kept = refl
 put_values e l (z ∷ zones) es kept =
     put_values e l zones (insert_entry by_place es z (row_with e z l)) (kept_put e l z es kept)
-    ∙ ap (λ (rows : List Row). put_each (rows_along e l zones) rows) (values-zoned (row_with e z l) es kept.0 kept.3)
+    ∙ ap (λ (rows : List Row). add_each (rows_along e l zones) rows) (values-zoned (row_with e z l) es kept.0 kept.3)
 
 pub run-made : (e : Event) (l : Life) (zones : List Place) (es next : List (Place × Row)) (counts counts_next : List (Standing × ℕ)) (befores : List Before) → next ≡ rows_put e l zones es
     → ((p : Life → Bool) → AreTallied p (values_of es) (values_of next) befores (length zones) l) → counts_next ≡ restood befores (length zones) l counts → AreOf e (values_of es) → AreEventRows es counts → IsRunPut e l zones es next counts_next

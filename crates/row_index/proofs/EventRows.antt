@@ -12,14 +12,14 @@ use Rattle.hazard_types.specs.declared.line.Line.{Line}
 use Rattle.hazard_types.specs.declared.line.Row.{Row}
 use Rattle.hazard_types.proofs.Equality.{event_itself}
 use Rattle.event_life.specs.Periods.{is_live, keeps_open, same_at}
-use Rattle.event_life.specs.Products.{by_key, has_rows, is_open, has_same}
+use Rattle.event_life.specs.Products.{by_key, has_rows, is_open, has_opened_period}
 use Rattle.event_life.specs.Table.{opened_period}
 use Rattle.row_index.specs.declared.standing.Standing.{Standing}
 use Rattle.row_index.specs.Holding.{told, AreHeld}
 use Rattle.row_index.specs.Listing.{list_at}
 use Rattle.row_index.specs.Zoning.{AreOf, AreOfFirst, is_first_of}
 use Rattle.row_index.specs.Standings.{AreEventRows}
-use Rattle.row_index.proofs.HeldRows.{none-sorted, held-own, held-part, is_open-of, has_same-of}
+use Rattle.row_index.proofs.HeldRows.{none-sorted, held-own, held-part, is_open-of, has_opened_period-of}
 use Rattle.row_index.proofs.Stood.{stood-none}
 use Rattle.row_index.proofs.Tests.{any_same}
 
@@ -72,7 +72,7 @@ grouped true b c = refl
 grouped false b c = refl
 
 pub same-held : (es : List (Event × List Row)) (t : ℕ) (line : Line) → AreHeld es → IsStrictlySortedBy by_key (list_at by_event es line.event)
-    → list_any (λ (r : Row). is_live t r && same_at t r.period (opened_period line t)) (list_at by_event es line.event) ≡ has_same (told es) t line
+    → list_any (λ (r : Row). is_live t r && same_at t r.period (opened_period line t)) (list_at by_event es line.event) ≡ has_opened_period (told es) t line
 same-held es t line held up =
     let e = line.event in
     let p = opened_period line t in
@@ -80,4 +80,4 @@ same-held es t line held up =
     any-own e (λ r. is_live t r && same_at t r.period p) part (held-own es e held)
     ∙ any_same (λ r. same_event r.event e && (is_live t r && same_at t r.period p)) (λ r. same_event r.event e && is_live t r && same_at t r.period p) part
     (λ r. grouped (same_event r.event e) (is_live t r) (same_at t r.period p))
-    ∙ has_same-of (told es) part t line (held-part es e part held refl up)
+    ∙ has_opened_period-of (told es) part t line (held-part es e part held refl up)

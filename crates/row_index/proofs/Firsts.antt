@@ -18,7 +18,7 @@ use Rattle.event_life.specs.declared.life.Breach.{Breach}
 use Rattle.event_life.specs.Products.{breach_in, is_routine, is_second, judged_from, concerns}
 use Rattle.row_index.specs.declared.seats.Seat.{Seat}
 use Rattle.row_index.specs.declared.verdicts.Part.{Part}
-use Rattle.row_index.specs.Apart.{all_rise, is_past, last_zone, zones_rise, AreEventsOf, SaysAll, Spoke}
+use Rattle.row_index.specs.Apart.{all_rise, is_after_last_zone, last_zone, zones_rise, AreEventsOf, SaysAll, Spoke}
 use Rattle.row_index.specs.Risen.{Says}
 use Rattle.row_index.specs.Runs.{in_zone}
 use Rattle.row_index.specs.Seating.{has_seat, key_of_line, speaks}
@@ -62,9 +62,9 @@ none_each p (x ∷ xs) h = let both = either_false (p x) (list_any p xs) h in (b
 -- a line that speaks is no second one where only zones before it were spoken of, or other events in its zone
 
 abbrev IsPast : Option Place → List Line → Type 0
-IsPast last earlier = (e : Event) (z : Place) → is_past last z ≡ true → list_any (concerns e z) earlier ≡ false
+IsPast last earlier = (e : Event) (z : Place) → is_after_last_zone last z ≡ true → list_any (concerns e z) earlier ≡ false
 
-past_last : (last : Option Place) (z y : Place) → is_past last z ≡ true → by_place z y ≡ Less → is_past last y ≡ true
+past_last : (last : Option Place) (z y : Place) → is_after_last_zone last z ≡ true → by_place z y ≡ Less → is_after_last_zone last y ≡ true
 past_last None z y h less = refl
 past_last (Some l) z y h less = ap is_lt (by_place_total.trans l z y (less_of (by_place l z) h) less)
 
@@ -76,7 +76,7 @@ none_in [] z y e less = refl
 none_in (l ∷ lines) z y e less =
     none_of (concerns e y (in_zone l z)) (list_any (concerns e y) (said_at lines z)) (other_zone (not (is_routine l.action)) (same_event l.event e) (same_zone z y) (zones_apart z y less)) (none_in lines z y e less)
 
-past_zone : (lines : List Line) (z : Place) (earlier : List Line) (last : Option Place) → IsPast last earlier → is_past last z ≡ true → IsPast (Some z) (earlier ++ said_at lines z)
+past_zone : (lines : List Line) (z : Place) (earlier : List Line) (last : Option Place) → IsPast last earlier → is_after_last_zone last z ≡ true → IsPast (Some z) (earlier ++ said_at lines z)
 past_zone lines z earlier last past here = λ e y h.
     let less = less_of (by_place z y) h in
     list_any-append (concerns e y) earlier (said_at lines z)
@@ -85,7 +85,7 @@ past_zone lines z earlier last past here = λ e y h.
 abbrev AreOther : Place → List Line → List Line → Type 0
 AreOther z earlier lines = AllByRecursion (λ (l : Line). list_any (concerns l.event z) earlier ≡ false) lines
 
-past_each : (lines : List Line) (z : Place) (earlier : List Line) (last : Option Place) → IsPast last earlier → is_past last z ≡ true → AreOther z earlier lines
+past_each : (lines : List Line) (z : Place) (earlier : List Line) (last : Option Place) → IsPast last earlier → is_after_last_zone last z ≡ true → AreOther z earlier lines
 past_each [] z earlier last past here = tt
 past_each (l ∷ lines) z earlier last past here = (past l.event z here, past_each lines z earlier last past here)
 
@@ -111,7 +111,7 @@ along_zones [] lines last earlier rest past rise own more =
     let all = append-nil earlier in
     subst (λ (all : List Line). AreFirst all rest) all (more (subst (λ (all : List Line). IsPast last all) (sym all) past))
 along_zones (z ∷ zones) lines last earlier rest past rise own more =
-    let both = and_parts (is_past last z) (zones_rise (Some z) zones) rise in
+    let both = and_parts (is_after_last_zone last z) (zones_rise (Some z) zones) rise in
     let here = said_at lines z in
     let later = said_along lines zones in
     subst (λ (all : List Line). AreFirst earlier all) (sym (append_assoc here later rest))

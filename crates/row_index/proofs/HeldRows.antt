@@ -15,7 +15,7 @@ use Rattle.hazard_types.specs.declared.line.Row.{Row}
 use Rattle.hazard_types.proofs.Equality.{event_one, zone_itself}
 use Rattle.hazard_types.proofs.OrderLaws.{by_event_total, by_event_ties}
 use Rattle.event_life.specs.Periods.{is_live, keeps_open, same_at}
-use Rattle.event_life.specs.Products.{by_key, put, row_at, has_rows, is_open, has_same}
+use Rattle.event_life.specs.Products.{by_key, put, row_at, has_rows, is_open, has_opened_period}
 use Rattle.event_life.specs.Table.{opened_period}
 use Rattle.event_life.proofs.FreeOrder.{told_by_keys}
 use Rattle.event_life.proofs.Members.{IsIn, any_in, in_any, find_in, none_in, one_way}
@@ -175,8 +175,8 @@ module _ (rows part : List Row) (e : Event) (of : AreRowsOf rows e part) where
   pub is_open-of : (t : ℕ) → is_open part t e ≡ is_open rows t e
   is_open-of t = any_of (λ (r : Row). same_event r.event e && keeps_open t r) (λ r h. event_one r.event e (and_parts (same_event r.event e) _ h).0)
 
-pub has_same-of : (rows part : List Row) (t : ℕ) (line : Line) → AreRowsOf rows line.event part → has_same part t line ≡ has_same rows t line
-has_same-of rows part t line of =
+pub has_opened_period-of : (rows part : List Row) (t : ℕ) (line : Line) → AreRowsOf rows line.event part → has_opened_period part t line ≡ has_opened_period rows t line
+has_opened_period-of rows part t line of =
     any_of rows part line.event of (λ (r : Row). same_event r.event line.event && is_live t r && same_at t r.period (opened_period line t))
     (λ r h. event_one r.event line.event (and_parts (same_event r.event line.event) _ (and_parts (same_event r.event line.event && is_live t r) _ h).0).0)
 

@@ -20,13 +20,13 @@ use Rattle.hazard_types.specs.declared.line.Row.{Row}
 use Rattle.hazard_types.proofs.Equality.{hazard_one, hazard_itself, event_one, event_itself}
 use Rattle.hazard_types.proofs.OrderLaws.{by_hazard_total, by_hazard_ties, numbers_tied}
 use Rattle.event_life.specs.Periods.{keeps_open}
-use Rattle.event_life.specs.Products.{by_key, put, has_rows, is_open, is_held, later_event, going_in}
+use Rattle.event_life.specs.Products.{by_key, put, has_rows, is_open, is_number_held, later_event, latest_open_event}
 use Rattle.event_life.proofs.Members.{IsIn, any_in, in_any, one_way}
 use Rattle.event_life.proofs.Puts.{put-sorted}
 use Rattle.row_index.specs.declared.numbers.Number.{Number}
 use Rattle.row_index.specs.Listing.{lists_of, list_at}
 use Rattle.row_index.specs.Numbers.{number_of, by_number, has_number, with_event, events_with, AreOpened}
-use Rattle.row_index.specs.Steps.{latest_open, put_each}
+use Rattle.row_index.specs.Steps.{latest_open, add_each}
 use Rattle.row_index.proofs.Lists.{at_same, at_other}
 use Rattle.row_index.proofs.Tests.{any_same, any_put_plain, or_false}
 use Rattle.row_index.proofs.Tests as keys
@@ -174,7 +174,7 @@ own_rows e row rows up is =
     ∙ ap (λ (b : Bool). b || has_rows rows e) (subst (λ (d : Event). same_event d e ≡ true) (sym is) (event_itself e))
 
 -- rows of an event that has others, put in turn
-opened-run : (e : Event) (rows all : List Row) (events : Lists) → IsStrictlySortedBy by_key all → AllByRecursion (λ (r : Row). r.event ≡ e) rows → has_rows all e ≡ true → AreOpened events all → AreOpened events (put_each rows all)
+opened-run : (e : Event) (rows all : List Row) (events : Lists) → IsStrictlySortedBy by_key all → AllByRecursion (λ (r : Row). r.event ≡ e) rows → has_rows all e ≡ true → AreOpened events all → AreOpened events (add_each rows all)
 opened-run e [] all events up own there opened = opened
 opened-run e (r ∷ rows) all events up own there opened =
     opened-run e rows (put r all) events (put-sorted r all up) own.1 (own_rows e r all up own.0)
@@ -182,7 +182,7 @@ opened-run e (r ∷ rows) all events up own there opened =
 
 -- and rows of an event, whether it had others or not
 pub opened-with : (known : Bool) (e : Event) (r : Row) (rows all : List Row) (events : Lists) → IsStrictlySortedBy by_key all → r.event ≡ e → AllByRecursion (λ (r : Row). r.event ≡ e) rows → (known ≡ true → has_rows all e ≡ true) → AreOpened events all
-    → AreOpened (events_with known e events) (put_each (r ∷ rows) all)
+    → AreOpened (events_with known e events) (add_each (r ∷ rows) all)
 opened-with true e r rows all events up is own there opened = opened-run e (r ∷ rows) all events up (is, own) (there refl) opened
 opened-with false e r rows all events up is own there opened =
     opened-run e rows (put r all) (events_with false e events) (put-sorted r all up) own (own_rows e r all up is)
@@ -203,9 +203,9 @@ open_by rows t e h =
 three : (a b c : Bool) → a ≡ true → b ≡ true → c ≡ true → ((a && b) && c) ≡ true
 three a b c p q r = rw (p, q, r) refl
 
-pub is_held-told : (events : Lists) (rows : List Row) (t : ℕ) (e : Event) → AreOpened events rows
-    → list_any (λ (d : Event). nat_lt d.year e.year && is_open rows t d) (list_at by_number events (number_of e)) ≡ is_held rows t e
-is_held-told events rows t e opened =
+pub is_number_held-told : (events : Lists) (rows : List Row) (t : ℕ) (e : Event) → AreOpened events rows
+    → list_any (λ (d : Event). nat_lt d.year e.year && is_open rows t d) (list_at by_number events (number_of e)) ≡ is_number_held rows t e
+is_number_held-told events rows t e opened =
     let k = number_of e in
     let asks : Event → Bool = λ d. nat_lt d.year e.year && is_open rows t d in
     let held : Row → Bool = λ r. same_hazard r.event.hazard e.hazard && (r.event.etn == e.etn) && nat_lt r.event.year e.year && keeps_open t r in
@@ -372,7 +372,7 @@ open_number events rows t k tells d is =
     let p = and_parts (has_number k w.0) _ w.2 in
     sym (number_one k w.0 p.0 ∙ ap number_of (event_one w.0.event d p.1))
 
-pub going-told : (events : Lists) (rows : List Row) (t : ℕ) (k : Number) → AreOpened events rows → latest_open rows t (list_at by_number events k) ≡ going_in rows k.hazard k.etn t
+pub going-told : (events : Lists) (rows : List Row) (t : ℕ) (k : Number) → AreOpened events rows → latest_open rows t (list_at by_number events k) ≡ latest_open_event rows k.hazard k.etn t
 going-told events rows t k opened =
     let known = list_at by_number events k in
     let tells = opened k in

@@ -34,7 +34,7 @@ use Rattle.row_index.specs.Reaching.{by_reach, end_cmp, rank_of, area_of, reach_
 use Rattle.event_life.specs.declared.life.Life.{Life}
 use Rattle.row_index.specs.Runs.{rows_along}
 use Rattle.row_index.specs.Sharing.{row_with}
-use Rattle.row_index.specs.Steps.{put_each}
+use Rattle.row_index.specs.Steps.{add_each}
 use Rattle.row_index.proofs.HeldRows.{held-found}
 use Rattle.row_index.proofs.Lists.{at_each, each_put}
 use Rattle.row_index.proofs.Seated.{spot_ties}
@@ -156,11 +156,11 @@ pub reached-at : (e : Event) (es : List (Event × List Row)) (keys : List Reach)
 reached-at e es keys all = at_each by_event by_event_total by_event_ties (λ (d : Event) (part : List Row). AreReached keys part) e es all tt
 
 -- rows are put, and reached
-reached_each : (keys : List Reach) (rows known : List Row) → AreReached keys rows → AreReached keys known → AreReached keys (put_each rows known)
+reached_each : (keys : List Reach) (rows known : List Row) → AreReached keys rows → AreReached keys known → AreReached keys (add_each rows known)
 reached_each keys [] known all sofar = sofar
 reached_each keys (r ∷ rows) known all sofar = reached_each keys rows (put r known) all.1 (put-all (λ (y : Row). is_reached keys y ≡ true) r known all.0 sofar)
 
-pub reached-put : (keys new : List Reach) (rows known : List Row) → Grows keys new → AreReached new rows → AreReached keys known → AreReached new (put_each rows known)
+pub reached-put : (keys new : List Reach) (rows known : List Row) → Grows keys new → AreReached new rows → AreReached keys known → AreReached new (add_each rows known)
 reached-put keys new rows known grows own all = reached_each new rows known own (reached-more keys new grows known all)
 
 -- one zone more of a run

@@ -1,20 +1,18 @@
 -- An index with the rows of one event put in turn.
-use Rattle.std.proofs.Common.{append_assoc, append-nil, ◌≡◌, ◌∙◌, ◌==◌, ◌<◌, ◌+◌, ℕ, suc, arith, drop, drop-cons, get_or, length, Bool, true, false, cond, List, [], ◌∷◌, ◌++◌, Option, Some, None, refl, ap, sym, subst}
+use Rattle.std.proofs.Common.{◌≡◌, ◌∙◌, ◌==◌, ◌+◌, ℕ, suc, arith, length, true, false, List, [], ◌∷◌, ◌++◌, Option, Some, None, refl, ap, sym, subst}
 use Rattle.std.specs.BTreeMap.{insert_entry}
 use Rattle.std.specs.List.{AllByRecursion}
 use Rattle.hazard_types.specs.Orders.{by_event}
 use Rattle.hazard_types.specs.declared.hazard.Event.{Event}
 use Rattle.hazard_types.specs.declared.line.Row.{Row}
-use Rattle.hazard_types.proofs.Equality.{line_one}
 use Rattle.hazard_types.proofs.OrderLaws.{by_event_total, by_event_ties}
-use Rattle.std.proofs.lemmas.Bool.{and_parts}
 use Rattle.std.proofs.lemmas.Bool.Decides.{nat_tests}
 use Rattle.hazard_types.specs.Places.{Place}
 use Rattle.hazard_types.specs.declared.codes.Action.{Action}
 use Rattle.hazard_types.specs.declared.codes.Action.TheVariants.{New, Con, Exa, Ext, Exb, Upg, Can, Exp, Cor, Rou}
 use Rattle.hazard_types.specs.declared.line.Line.{Line}
 use Rattle.event_life.specs.declared.life.Life.{Life}
-use Rattle.event_life.specs.Products.{put, has_rows, life_at, row_after, row_of}
+use Rattle.event_life.specs.Products.{put, has_rows}
 use Rattle.event_life.specs.Table.{life_after_line, life_after_lawful_line}
 use Rattle.row_index.specs.declared.numbers.Number.{Number}
 use Rattle.row_index.specs.Holding.{told, AreHeld}
@@ -23,8 +21,7 @@ use Rattle.row_index.specs.Indexing.{IsIndex}
 use Rattle.row_index.specs.Numbers.{events_with, AreOpened}
 use Rattle.row_index.specs.Reaching.{AreReached, Grows, Reaches}
 use Rattle.row_index.specs.Runs.{held_put, in_zone, rows_along, same_life}
-use Rattle.row_index.specs.Sharing.{row_with}
-use Rattle.row_index.specs.Steps.{put_each}
+use Rattle.row_index.specs.Steps.{add_each}
 use Rattle.row_index.proofs.HeldRows.{held-with, has_rows-told, told-sorted, told-with}
 use Rattle.row_index.proofs.Lists.{at_same, put_twice}
 use Rattle.row_index.proofs.Opened.{opened-with}
@@ -34,7 +31,7 @@ use Rattle.row_index.proofs.SharedRows.{life_one}
 
 -- the rows of each event are its own, and all of them are the rows with those put
 abbrev pub IsPut : List Row → List (Event × List Row) → List (Event × List Row) → Type 0
-IsPut rows es new = AreHeld new × (told new ≡ put_each rows (told es))
+IsPut rows es new = AreHeld new × (told new ≡ add_each rows (told es))
 
 one-put : (e : Event) (row : Row) → row.event ≡ e → (es : List (Event × List Row)) → AreHeld es → IsPut (row ∷ []) es (held_put e (row ∷ []) es)
 one-put e row is es held = subst (λ (d : Event). IsPut (row ∷ []) es (held_put d (row ∷ []) es)) is (held-with row es held, told-with row es held)
@@ -47,14 +44,14 @@ run-put e row (next ∷ rows) is all es held =
     let one = one-put e row is es held in
     let more = run-put e next rows all.0 all.1 es' one.0 in
     let known_is : list_at by_event es' e ≡ put row known = at_same by_event by_event_total by_event_ties e es (put row known) in
-    let told_is : put_each (next ∷ rows) (told es') ≡ put_each (row ∷ next ∷ rows) (told es) = ap (put_each (next ∷ rows)) one.1 in
+    let told_is : add_each (next ∷ rows) (told es') ≡ add_each (row ∷ next ∷ rows) (told es) = ap (add_each (next ∷ rows)) one.1 in
     let twice : held_put e (next ∷ rows) es' ≡ held_put e (row ∷ next ∷ rows) es =
-    ap (λ (part : List Row). insert_entry by_event es' e (put_each (next ∷ rows) part)) known_is ∙ put_twice by_event by_event_total by_event_ties e es (put row known) (put_each (next ∷ rows) (put row known)) in
+    ap (λ (part : List Row). insert_entry by_event es' e (add_each (next ∷ rows) part)) known_is ∙ put_twice by_event by_event_total by_event_ties e es (put row known) (add_each (next ∷ rows) (put row known)) in
     (subst (λ (new : List (Event × List Row)). AreHeld new) twice more.0, ap told (sym twice) ∙ more.1 ∙ told_is)
 
 -- rows that are there, put
 rows-put : (e : Event) (rows : List Row) → (length rows == 0) ≡ false → AllByRecursion (λ (r : Row). r.event ≡ e) rows → (es new : List (Event × List Row)) (events new_events : List (Number × List Event)) (reach new_reach : List Reach)
-    → new ≡ held_put e rows es → new_events ≡ events_with (has_rows (list_at by_event es e) e) e events → AreReached new_reach (put_each rows (list_at by_event es e)) → Grows reach new_reach → IsIndex es events reach → IsIndex new new_events new_reach × (told new ≡ put_each rows (told es))
+    → new ≡ held_put e rows es → new_events ≡ events_with (has_rows (list_at by_event es e) e) e events → AreReached new_reach (add_each rows (list_at by_event es e)) → Grows reach new_reach → IsIndex es events reach → IsIndex new new_events new_reach × (told new ≡ add_each rows (told es))
 rows-put e [] some all es new events new_events reach new_reach new_is events_are reached grows index = cc
 rows-put e (row ∷ rows) some all es new events new_events reach new_reach new_is events_are reached grows index =
     let known = has_rows (list_at by_event es e) e in
@@ -63,15 +60,15 @@ rows-put e (row ∷ rows) some all es new events new_events reach new_reach new_
       record {
         held = put.0;
         opened = subst (λ (all : List Row). AreOpened new_events all) (sym put.1)
-            (subst (λ (x : List (Number × List Event)). AreOpened x (put_each (row ∷ rows) (told es))) (sym events_are) opened);
+            (subst (λ (x : List (Number × List Event)). AreOpened x (add_each (row ∷ rows) (told es))) (sym events_are) opened);
         reached = subst (λ (x : List (Event × List Row)). Reaches new_reach x) (sym new_is)
-            (reaches-put e (put_each (row ∷ rows) (list_at by_event es e)) es reach new_reach grows reached index.reached);
+            (reaches-put e (add_each (row ∷ rows) (list_at by_event es e)) es reach new_reach grows reached index.reached);
       },
       put.1,
     )
 
 -- rows one after another
-pub put_both : (rows more known : List Row) → put_each (rows ++ more) known ≡ put_each more (put_each rows known)
+pub put_both : (rows more known : List Row) → add_each (rows ++ more) known ≡ add_each more (add_each rows known)
 put_both [] more known = refl
 put_both (r ∷ rows) more known = put_both rows more (put r known)
 
@@ -91,7 +88,7 @@ along_some e l (z ∷ zones) h = none (length (rows_along e l zones))
 -- the rows of a run that are put, where it has a zone
 pub rows-made : (e : Event) (l : Life) (zones : List Place) → (length zones == 0) ≡ false → (es new : List (Event × List Row)) (events new_events : List (Number × List Event)) (reach new_reach : List Reach)
     → new ≡ held_put e (rows_along e l zones) es → new_events ≡ events_with (has_rows (list_at by_event es e) e) e events → AreReached new_reach (rows_along e l zones) → Grows reach new_reach → IsIndex es events reach
-    → IsIndex new new_events new_reach × (told new ≡ put_each (rows_along e l zones) (told es))
+    → IsIndex new new_events new_reach × (told new ≡ add_each (rows_along e l zones) (told es))
 rows-made e l zones some es new events new_events reach new_reach new_is events_are own grows index =
     rows-put e (rows_along e l zones) (along_some e l zones some) (along_own e l zones) es new events new_events reach new_reach new_is events_are
     (reached-put reach new_reach (rows_along e l zones) (list_at by_event es e) grows own (reached-at e es reach index.reached)) grows index

@@ -7,7 +7,7 @@ use Rattle.std.specs.List.{list_any}
 use Rattle.std.specs.Ordering.{is_lt, is_eq, ordering_reverse}
 use Rattle.hazard_types.specs.declared.line.Line.{Line}
 use Rattle.row_index.specs.declared.seats.Seat.{Seat}
-use Rattle.row_index.specs.Risen.{is_behind, last_said, rising_with, seats_of, IsFree, Joins, Says}
+use Rattle.row_index.specs.Risen.{is_after_last_key, last_said, rising_with, seats_of, IsFree, Joins, Says}
 use Rattle.row_index.specs.Seating.{by_seat, has_seat, key_of_line, seats_with}
 use Rattle.row_index.specs.Telling.{Tells}
 use Rattle.row_index.proofs.Seated.{by_seat_total, by_seat_ties, counts_at, one_longer}
@@ -20,7 +20,7 @@ less_by Less h = refl
 less_by Equal h = cc
 less_by Greater h = cc
 
-behind_last : (last : Option Seat) (s q : Seat) → is_behind last s ≡ true → by_seat s q ≡ Less → is_behind last q ≡ true
+behind_last : (last : Option Seat) (s q : Seat) → is_after_last_key last s ≡ true → by_seat s q ≡ Less → is_after_last_key last q ≡ true
 behind_last None s q h less = refl
 behind_last (Some l) s q h less = ap is_lt (by_seat_total.trans l s q (less_by (by_seat l s) h) less)
 
@@ -33,7 +33,7 @@ neither a b p q = rw (p, q) refl
 pub free-none : (last : Option Seat) (rising : List Seat) → rising ≡ [] → IsFree last rising
 free-none last rising none = λ s h. rw none refl
 
-pub free-more : (counts : Bool) (line : Line) (last : Option Seat) (rising : List Seat) → IsFree last rising → is_behind last (key_of_line line) ≡ true → IsFree (last_said counts line last) (rising_with counts line rising)
+pub free-more : (counts : Bool) (line : Line) (last : Option Seat) (rising : List Seat) → IsFree last rising → is_after_last_key last (key_of_line line) ≡ true → IsFree (last_said counts line last) (rising_with counts line rising)
 free-more false line last rising free behind = free
 free-more true line last rising free behind = λ q h.
     let s = key_of_line line in
@@ -46,7 +46,7 @@ free-more true line last rising free behind = λ q h.
 or_by : (a b : Bool) → a ≡ false → b ≡ (a || b)
 or_by a b h = rw h refl
 
-pub second_behind : (last : Option Seat) (rising others : List Seat) (s : Seat) → IsFree last rising → is_behind last s ≡ true → has_seat others s ≡ has_seat (seats_of rising others) s
+pub second_behind : (last : Option Seat) (rising others : List Seat) (s : Seat) → IsFree last rising → is_after_last_key last s ≡ true → has_seat others s ≡ has_seat (seats_of rising others) s
 second_behind last rising others s free behind =
     or_by (has_seat rising s) (has_seat others s) (free s behind) ∙ sym (list_any-append (is_at (by_seat s)) rising others)
 

@@ -12,14 +12,14 @@ use Rattle.row_index.specs.Telling.{Tells}
 use Rattle.row_index.specs.Verdicts.{AreFirst}
 
 -- the zone is behind the last one, if there is one
-abbrev pub is_past : Option Place → Place → Bool
-is_past None z = true
-is_past (Some last) z = is_lt (by_place last z)
+abbrev pub is_after_last_zone : Option Place → Place → Bool
+is_after_last_zone None z = true
+is_after_last_zone (Some last) z = is_lt (by_place last z)
 
 -- zones rise behind the last one
 abbrev pub zones_rise : Option Place → List Place → Bool
 zones_rise last [] = true
-zones_rise last (z ∷ zones) = is_past last z && zones_rise (Some z) zones
+zones_rise last (z ∷ zones) = is_after_last_zone last z && zones_rise (Some z) zones
 
 -- the last one is then this
 abbrev pub last_zone : Option Place → List Place → Option Place

@@ -10,13 +10,13 @@ use Rattle.row_index.specs.Seating.{by_seat, key_of_line, has_seat}
 abbrev pub seats_of : List Seat → List Seat → List Seat
 seats_of rising others = rising ++ others
 
-abbrev pub is_behind : Option Seat → Seat → Bool
-is_behind None s = true
-is_behind (Some last) s = is_lt (by_seat last s)
+abbrev pub is_after_last_key : Option Seat → Seat → Bool
+is_after_last_key None s = true
+is_after_last_key (Some last) s = is_lt (by_seat last s)
 
 -- none that is behind the last is among these
 abbrev pub IsFree : Option Seat → List Seat → Type 0
-IsFree last rising = (s : Seat) → is_behind last s ≡ true → has_seat rising s ≡ false
+IsFree last rising = (s : Seat) → is_after_last_key last s ≡ true → has_seat rising s ≡ false
 
 -- the seats that rose and the last of them, with that of a line where it counts
 abbrev pub rising_with : Bool → Line → List Seat → List Seat

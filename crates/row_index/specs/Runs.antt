@@ -1,5 +1,5 @@
 -- Rows of one event whose lives have come to the same, in several zones.
-use Rattle.std.specs.Prelude.{◌≡◌, ◌&&◌, ◌++◌, if◌then◌else◌, ℕ, Bool, List, [], ◌∷◌, map, Option, Some, None}
+use Rattle.std.specs.Prelude.{Bool, List, map, Option}
 use Rattle.std.specs.BTreeMap.{insert_entry}
 use Rattle.std.specs.Option.{option_eq}
 use Rattle.hazard_types.specs.Orders.{by_event}
@@ -10,11 +10,9 @@ use Rattle.hazard_types.specs.declared.line.Line.{Line}
 use Rattle.hazard_types.specs.declared.line.Row.{Row}
 use Rattle.event_life.specs.contracts.life.LifePartialEq.TheImpl as life
 use Rattle.event_life.specs.declared.life.Life.{Life}
-use Rattle.event_life.specs.Products.{row_of}
-use Rattle.event_life.specs.Table.{life_after_lawful_line}
 use Rattle.row_index.specs.Listing.{list_at}
 use Rattle.row_index.specs.Sharing.{row_with}
-use Rattle.row_index.specs.Steps.{put_each}
+use Rattle.row_index.specs.Steps.{add_each}
 
 -- the same line of another zone
 abbrev pub in_zone : Line → Place → Line
@@ -34,4 +32,4 @@ rows_along e l zones = map (λ (z : Place). row_with e z l) zones
 
 -- the rows of each event, with those of one put among its rows
 abbrev pub held_put : Event → List Row → List (Event × List Row) → List (Event × List Row)
-held_put e rows es = insert_entry by_event es e (put_each rows (list_at by_event es e))
+held_put e rows es = insert_entry by_event es e (add_each rows (list_at by_event es e))

@@ -20,7 +20,7 @@ use Rattle.row_index.specs.declared.standing.Standing.{Standing}
 use Rattle.row_index.specs.contracts.standing.StandingOrd.TheImpl as order
 use Rattle.row_index.specs.Numbers.{stands}
 use Rattle.row_index.specs.Runs.{rows_along}
-use Rattle.row_index.specs.Steps.{put_each, has_same_period}
+use Rattle.row_index.specs.Steps.{add_each, has_same_period}
 use Rattle.row_index.specs.Tallies.{tally}
 use Rattle.row_index.specs.Zoning.{AreOfFirst, AreZoned}
 
@@ -119,5 +119,5 @@ pub record AreEventRows (es : List (Place × Row)) (counts : List (Standing × �
 
 -- the rows of an event in zones have come to a life, and are counted
 pub record IsRunPut (e : Event) (life : Life) (zones : List Place) (old new : List (Place × Row)) (counts : List (Standing × ℕ)) : Type 0 where
-  pub rows : values_of new ≡ put_each (rows_along e life zones) (values_of old)
+  pub rows : values_of new ≡ add_each (rows_along e life zones) (values_of old)
   pub are : AreEventRows new counts

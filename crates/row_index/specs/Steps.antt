@@ -1,5 +1,5 @@
 -- What the code of an index does on the way: the rows that lines leave, and those by which a higher row is looked for in a zone.
-use Rattle.std.specs.Prelude.{◌≡◌, ◌&&◌, ◌||◌, ◌∷◌, not, ℕ, Bool, true, false, List, [], filter, fold, if◌then◌else◌, Option, Some, None, is_none}
+use Rattle.std.specs.Prelude.{◌≡◌, ◌&&◌, ◌||◌, not, ℕ, Bool, true, false, List, [], filter, fold, if◌then◌else◌, Option, Some, None, is_none}
 use Rattle.std.specs.List.{AllByRecursion, list_any}
 use Rattle.std.specs.List.Sorted.{IsStrictlySortedBy}
 use Rattle.hazard_types.specs.Hazards.{facts_of}
@@ -19,7 +19,7 @@ use Rattle.event_life.specs.declared.life.Life.{Life}
 use Rattle.event_life.specs.Higher.{family_of, is_above}
 use Rattle.event_life.specs.Periods.{is_live, overlaps}
 use Rattle.event_life.specs.Table.{opened_period}
-use Rattle.event_life.specs.Products.{by_key, put, row_at, row_after, rows_after_all_but_upgrades, has_rows, is_open, is_held, has_same, is_new, later_event, going_in}
+use Rattle.event_life.specs.Products.{by_key, put, row_at, rows_after_all_but_upgrades, has_rows, is_open, is_number_held, has_opened_period, is_new, later_event, latest_open_event}
 use Rattle.row_index.specs.declared.seats.Seat.{Seat}
 use Rattle.row_index.specs.Numbers.{is_in_zone}
 use Rattle.row_index.specs.Seating.{seat_at, seat_of, key_of_line, has_seat, upgrades}
@@ -31,7 +31,7 @@ latest_open rows t events = fold (λ (best : Option Event) (e : Event). if is_op
 
 -- the open event that a line of a text is of, where it opens none
 abbrev pub event_going : List Row → ℕ → Vtec → Option Event
-event_going rows t vtec = if is_new vtec.action then None else going_in rows vtec.hazard vtec.etn t
+event_going rows t vtec = if is_new vtec.action then None else latest_open_event rows vtec.hazard vtec.etn t
 
 -- What stands around a line, as far as its action asks for it: a NEW line of an event with rows does not ask for an earlier year's,
 -- and an EXA or EXB line of an event that is not open asks for no period.
@@ -40,10 +40,10 @@ abbrev pub nothing_around : Bool → Around
 nothing_around higher = record { opened = false; going = false; held = false; same = false; higher = higher }
 
 abbrev pub around_new : List Row → ℕ → Line → Bool → Around
-around_new rows t line higher = record { opened = has_rows rows line.event; going = false; held = not (has_rows rows line.event) && is_held rows t line.event; same = false; higher = higher }
+around_new rows t line higher = record { opened = has_rows rows line.event; going = false; held = not (has_rows rows line.event) && is_number_held rows t line.event; same = false; higher = higher }
 
 abbrev pub around_joining : List Row → ℕ → Line → Bool → Around
-around_joining rows t line higher = record { opened = false; going = is_open rows t line.event; held = false; same = is_open rows t line.event && has_same rows t line; higher = higher }
+around_joining rows t line higher = record { opened = false; going = is_open rows t line.event; held = false; same = is_open rows t line.event && has_opened_period rows t line; higher = higher }
 
 abbrev pub asked_around : Action → List Row → ℕ → Line → Bool → Around
 asked_around action.New rows t line higher = around_new rows t line higher
@@ -61,8 +61,8 @@ IsAsked rows t None = Unit {0}
 IsAsked rows t (Some asked) = asked.1 ≡ asked_around asked.0.action rows t asked.0 true
 
 -- each of the rows is put in turn
-abbrev pub put_each : List Row → List Row → List Row
-put_each left after = fold (λ (rows : List Row) (row : Row). put row rows) after left
+abbrev pub add_each : List Row → List Row → List Row
+add_each left after = fold (λ (rows : List Row) (row : Row). put row rows) after left
 
 -- no line has ended the life or the one before, which had the same period
 abbrev pub has_same_period : Option Life → Life → Bool
@@ -96,12 +96,12 @@ abbrev pub stays_over : ℕ → Option (Family × ℕ) → List Seat → Row →
 stays_over t low upgraded own r = rises_over t low own r && not (has_seat upgraded (seat_of r))
 
 -- no UPG line speaks of the event in the zone, and no other line leaves a row of it there
-abbrev pub is_free : List Row → List Seat → Place → Event → Bool
-is_free counted upgraded z e = not (has_seat upgraded (seat_at e z)) && is_none (row_at counted e z)
+abbrev pub is_untouched : List Row → List Seat → Place → Event → Bool
+is_untouched counted upgraded z e = not (has_seat upgraded (seat_at e z)) && is_none (row_at counted e z)
 
 -- the row is live and above a rank, and overlaps this one in its zone, where the product changes nothing of it
 abbrev pub still_over : ℕ → Option (Family × ℕ) → List Row → List Seat → Row → Row → Bool
-still_over t low counted upgraded own r = rises_over t low own r && is_free counted upgraded own.zone r.event
+still_over t low counted upgraded own r = rises_over t low own r && is_untouched counted upgraded own.zone r.event
 
 -- the row has no rank, or one is over it after the product: of those that its lines leave, or of those that stood before it
 abbrev pub is_overlapped : List Row → ℕ → List Row → List Seat → Option (Family × ℕ) → Row → Bool

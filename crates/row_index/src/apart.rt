@@ -5,7 +5,7 @@ ghost use Rattle.std.specs.BTreeMap.{is_at};
 ghost use Rattle.std.specs.BTreeSet.{insert_key};
 ghost use Rattle.std.specs.List.{AllByRecursion, list_any};
 ghost use Rattle.hazard_types.specs.Orders.{by_event};
-ghost use Rattle.row_index.specs.Apart.{all_rise, is_past, last_zone, zones_rise, Spoke};
+ghost use Rattle.row_index.specs.Apart.{all_rise, is_after_last_zone, last_zone, zones_rise, Spoke};
 ghost use Rattle.row_index.specs.Risen.{seats_of, IsFree};
 ghost use Rattle.row_index.specs.Verdicts.{lines_in, said_at, said_in, AreFirst, HaveOwnEvents};
 ghost use Rattle.row_index.specs.declared.verdicts.Part.{Part as PartValue};
@@ -19,9 +19,9 @@ use hazard_types::{Event, Line, Oom, Zone};
 use std::alloc::Global;
 use std::collections::BTreeSet;
 
-/// Whether `zone` comes after `last`, or there is no last zone.
-fn is_past(last: &Option<Zone>, zone: &Zone) -> bool
-    ensures { result ≡ is_past last.now zone.now }
+/// Whether `zone` comes after `last` in the order of zones; true if `last` is `None`.
+fn is_after_last_zone(last: &Option<Zone>, zone: &Zone) -> bool
+    ensures { result ≡ is_after_last_zone last.now zone.now }
 {
     match last {
         Some(last) => last.cmp(zone).is_lt(),
@@ -29,13 +29,14 @@ fn is_past(last: &Option<Zone>, zone: &Zone) -> bool
     }
 }
 
-/// Whether the zones ascend and all come after `last`. If so, `last` becomes the last of them.
+/// Whether the zones strictly ascend, and the first comes after `last` if that is not `None`. If
+/// so, `last` becomes the last of `zones`, and stays as it is if there is none.
 fn zones_rise(last: &mut Option<Zone>, zones: &[Zone]) -> bool
     ensures rise { result ≡ zones_rise last.old zones.now }
     ensures last { result ≡ true → last.new ≡ last_zone last.old zones.now }
 {
     for zone in zones {
-        if !is_past(last, zone) {
+        if !is_after_last_zone(last, zone) {
             return false;
         }
         *last = Some(*zone);
@@ -43,7 +44,7 @@ fn zones_rise(last: &mut Option<Zone>, zones: &[Zone]) -> bool
     true
 }
 
-/// Whether the zones ascend over all parts.
+/// Whether the zones of all parts, part after part, strictly ascend.
 fn all_rise(parts: &[Part<'_>]) -> bool
     ensures { result ≡ all_rise None parts.now }
 {
@@ -56,7 +57,7 @@ fn all_rise(parts: &[Part<'_>]) -> bool
     true
 }
 
-/// Adds an event and returns whether it was not there before.
+/// Adds `event` to the set and returns whether it was not there before.
 fn note_event(events: &mut BTreeSet<EventKey>, event: &Event) -> Result<bool, Oom>
     ensures new { IfOk result
         (λ new. new ≡ not (list_any (is_at (by_event event.now)) events.old.keys)) }
@@ -97,8 +98,9 @@ fn have_own_events(alloc: Global, parts: &[Part<'_>]) -> Result<bool, Oom>
     Ok(true)
 }
 
-/// Whether none of the lines is a second one of its event in `zone`. Adds their keys to `spoken`,
-/// up to the first that is one.
+/// Whether no line has a key (its event, in `zone`) that is in `spoken` or that an earlier one of
+/// `lines` other than ROU has. Adds the keys of the lines other than ROU to `spoken`; on `false`
+/// only those before the first line whose key was there.
 fn mark_zone_seen(spoken: &mut SeenKeys, zone: &Zone, lines: &[Line]) -> Result<bool, Oom>
     requires { IsFree spoken.old.last spoken.old.rising.items }
     ensures first { IfOk result (λ first. first ≡ true
@@ -115,8 +117,10 @@ fn mark_zone_seen(spoken: &mut SeenKeys, zone: &Zone, lines: &[Line]) -> Result<
     Ok(true)
 }
 
-/// Whether none of the lines of a part is a second one of its event and zone. Adds their keys to
-/// `spoken`, up to the first that is one.
+/// Whether no line of the part, in any zone of the part, has a key (zone and event) that is in
+/// `spoken` or that an earlier line of the part other than ROU has. Adds the keys of the lines
+/// other than ROU to `spoken`, zone by zone; on `false` only those before the first line whose key
+/// was there.
 fn mark_part_seen(spoken: &mut SeenKeys, part: &Part<'_>) -> Result<bool, Oom>
     requires { IsFree spoken.old.last spoken.old.rising.items }
     ensures first { IfOk result (λ first. first ≡ true
@@ -133,7 +137,8 @@ fn mark_part_seen(spoken: &mut SeenKeys, part: &Part<'_>) -> Result<bool, Oom>
     Ok(true)
 }
 
-/// Whether no line of the parts is a second one of its event and zone.
+/// Whether no line of the parts, in any zone of its part, has the zone and event of an earlier line
+/// of the parts that is not ROU.
 fn none_second(alloc: Global, parts: &[Part<'_>]) -> Result<bool, Oom>
     ensures { IfOk result (λ first. first ≡ true → AreFirst [] (lines_in parts.now)) }
 {
@@ -147,8 +152,12 @@ fn none_second(alloc: Global, parts: &[Part<'_>]) -> Result<bool, Oom>
     Ok(true)
 }
 
-/// Whether no line of the parts is a second one of its event and zone, and no two lines of a part
-/// have the same event.
+/// Whether no line of the parts, in any zone of its part, has the zone and event of an earlier line
+/// that is not ROU, and no two lines of one part have the same event.
+///
+/// # Errors
+///
+/// Out of memory.
 pub fn are_apart(alloc: Global, parts: &[Part<'_>]) -> Result<bool, Oom>
     ensures first { IfOk result (λ apart. apart ≡ true → AreFirst [] (lines_in parts.now)) }
     ensures events { IfOk result (λ apart.

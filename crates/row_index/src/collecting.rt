@@ -20,7 +20,8 @@ pub struct Alone {
 }
 
 impl Alone {
-    /// Adds the zone of another line with this verdict.
+    /// Appends the zone of the line of `verdict` to the zones. The verdict must be the same but for
+    /// that zone.
     fn put(&mut self, verdict: &Verdict) -> Result<(), Oom>
         ensures { OnOk result (self.new ≡ further self.old verdict.now) }
     {
@@ -29,7 +30,8 @@ impl Alone {
     }
 }
 
-/// Returns a line in its own zone alone.
+/// Returns a pending run, to which further zones may be added, of one judged line: `verdict`, with
+/// the zone of its line as the only one.
 fn begun(alloc: Global, verdict: &Verdict) -> Result<Alone, Oom>
     ensures zones { IfOk result (λ a. a.zones ≡ verdict.now.line.zone ∷ []) }
     ensures verdict { IfOk result (λ a. a.verdict ≡ verdict.now) }
@@ -42,7 +44,8 @@ fn begun(alloc: Global, verdict: &Verdict) -> Result<Alone, Oom>
     })
 }
 
-/// Returns the run of a line.
+/// Returns a pending run, one line in zones where it has the same verdict, as a run with that one
+/// verdict.
 fn run_of(alloc: Global, alone: Alone) -> Result<Run, Oom>
     ensures { IfOk result (λ run. run ≡ run_of alone) }
 {
@@ -61,8 +64,8 @@ fn same_verdict(a: &Verdict, b: &Verdict) -> bool
     same_life(&a.found, &b.found) && a.breach == b.breach && is_alike(&a.line, &b.line)
 }
 
-/// Adds the zone of a line to the pending run if the verdict is the same, and returns whether it
-/// is.
+/// Adds the zone of the line of `verdict` to the pending run `last` if the verdict of that run is
+/// the same but for the zone, and returns whether it is. False if `last` is `None`.
 fn join(last: &mut Option<Alone>, verdict: &Verdict) -> Result<bool, Oom>
     ensures { IfOk result (λ joined. IsJoined joined verdict.now last.old last.new) }
 {
@@ -78,7 +81,8 @@ fn join(last: &mut Option<Alone>, verdict: &Verdict) -> Result<bool, Oom>
     }
 }
 
-/// Adds the pending run, if there is one, to `runs`, and makes `next` the pending one.
+/// Appends the pending run `last`, if there is one, to `runs`, and makes `next` the pending one,
+/// `last`.
 fn begin(
     alloc: Global,
     runs: &mut Vec<Run>,
@@ -97,7 +101,7 @@ fn begin(
     }
 }
 
-/// Returns the runs, and the pending one after them if there is one.
+/// Returns the runs, and after them the pending run `last` if there is one.
 fn with_pending_run(alloc: Global, runs: Vec<Run>, last: Option<Alone>) -> Result<List<Run>, Oom>
     ensures { IfOk result (λ all. all ≡ with_last runs.items last) }
 {
@@ -111,7 +115,9 @@ fn with_pending_run(alloc: Global, runs: Vec<Run>, last: Option<Alone>) -> Resul
     }
 }
 
-/// Adds a line to the pending run, or makes it the next pending one.
+/// Adds the zone of a judged line to the pending run `last` if the verdict of that run is the same
+/// but for the zone. Otherwise appends that run, if there is one, to `runs` and makes the line the
+/// pending one.
 fn collect(
     alloc: Global,
     runs: &mut Vec<Run>,
@@ -129,7 +135,10 @@ fn collect(
 }
 
 impl RowIndex {
-    /// Returns judged lines as runs of one line each, with the lives that they found in `self`.
+    /// Returns judged lines, each given with its first breach or `None`, as runs of one line each,
+    /// in the same order. A run's verdict has the life that `self` has for the event in these
+    /// zones. Successive lines that differ in their zones alone and have equal lives and breaches
+    /// are one run.
     pub(crate) fn collected(
         &self,
         alloc: Global,

@@ -13,14 +13,14 @@ ghost use Rattle.row_index.specs.Numbers.{events_with};
 ghost use Rattle.row_index.specs.Reaching.{AreReached, Grows};
 ghost use Rattle.row_index.specs.Runs.{held_put, rows_along};
 ghost use Rattle.row_index.specs.Standings.{AreEventRows, IsRunPut};
-ghost use Rattle.row_index.specs.Steps.{put_each};
+ghost use Rattle.row_index.specs.Steps.{add_each};
 ghost use Rattle.row_index.specs.Zoning.{AreOf};
 
 use crate::lives::row_with;
-use crate::numbers::{Events, put_event_of};
+use crate::numbers::{Events, add_new_event};
 use crate::parts::EventKey;
 use crate::reach::{Reaches, reach_each};
-use crate::seats::{Seated, put_seated};
+use crate::seats::{Seated, add_seated};
 use crate::shared::SharedRows;
 use crate::standing::{Standings, has_same_among, is_open_among, replace_counted};
 use event_life::Life;
@@ -29,7 +29,9 @@ use std::alloc::Global;
 use std::collections::BTreeMap;
 use std::marker::Model;
 
-/// Puts rows of the event with `life` in `zones`, and corrects the counts of unended rows.
+/// Sets a row of `event` with `life` in each of the zones, and corrects `standing`, the counts of
+/// unended rows by period. All of `rows` must be of `event`, and `standing` must have their counts.
+/// On `Oom` the counts may no longer be those of the rows.
 fn insert_standing(
     alloc: Global,
     rows: &mut SharedRows,
@@ -68,6 +70,7 @@ impl Model for EventRows {
 }
 
 impl EventRows {
+    /// Returns a value without rows and without counts.
     fn new(alloc: Global) -> Self
         ensures { result ≡ [] }
     {
@@ -86,8 +89,9 @@ impl EventRows {
         RowsOf { rows: Some(self) }
     }
 
-    /// Returns the life of the row of an event in a zone. `near` is a guess of its index, and
-    /// becomes the index after it.
+    /// Returns the life of the row of an event in a zone, or `None` if there is none. `near` is a
+    /// guess of the zone's index among the zones in order, and may become the index after it; a
+    /// wrong guess only costs time.
     fn life_at(&self, near: &mut usize, event: &Event, zone: &Zone) -> Option<&Life>
         ensures { option_map (λ life. life.now) result
             ≡ option_map life_of (row_at self.now event.now zone.now) }
@@ -109,18 +113,20 @@ impl EventRows {
         self.rows.values(alloc)
     }
 
-    /// Returns the rows that are live at `t`.
+    /// Returns the rows that are live at `t` by zone: unended, and with an end after `t` or until
+    /// further notice.
     fn shown(&self, alloc: Global, t: Minute) -> Result<List<Row>, Oom>
         ensures { IfOk result (λ rows. rows ≡ shown_at t self.now) }
     {
         event_life::shown(alloc, &self.all(alloc)?, t)
     }
 
-    /// Puts rows of the event with `life` in `zones`. On `Oom` the event has no rows.
+    /// Sets a row of the event with `life` in each of the zones. All rows must be of `event`. On
+    /// `Oom` all rows are dropped.
     fn put(&mut self, alloc: Global, event: &Event, life: &Life, zones: &[Zone]) -> Result<(), Oom>
         requires { AreOf event.now self.old }
         ensures { OnOk result
-            (self.new ≡ put_each (rows_along event.now life.now zones.now) self.old) }
+            (self.new ≡ add_each (rows_along event.now life.now zones.now) self.old) }
     {
         match insert_standing(
             alloc,
@@ -139,12 +145,13 @@ impl EventRows {
         }
     }
 
-    /// Returns the number of rows, as a hint that no contract promises.
+    /// Returns the number of rows, which is a hint alone: no contract promises that it is right.
     fn count(&self) -> usize {
         self.rows.count()
     }
 
-    /// Whether an unended row has an end that is at most half an hour before `t`, or later.
+    /// Whether an unended row has an end that is at most half an hour before `t`, or later, or
+    /// until further notice.
     fn is_open(&self, t: Minute) -> bool
         ensures open { result ≡ list_any (keeps_open t) self.now }
         ensures order { IsStrictlySortedBy by_key self.now }
@@ -152,7 +159,8 @@ impl EventRows {
         is_open_among(&self.standing, t)
     }
 
-    /// Whether a row that is live at `t` has this period. Begins at `t` or before count as equal.
+    /// Whether a row that is live at `t` (unended, with an end after `t` or until further notice)
+    /// has this period. Two begins at `t` or before count as equal.
     fn has_period(&self, t: Minute, period: &Period) -> bool
         ensures same { result
             ≡ list_any (λ r. is_live t r && same_at t r.period period.now) self.now }
@@ -185,8 +193,9 @@ impl<'a> RowsOf<'a> {
         RowsOf { rows: None }
     }
 
-    /// Returns the life of the row of an event in a zone. `near` is a guess of its index, and
-    /// becomes the index after it.
+    /// Returns the life of the row of an event in a zone, or `None` if there is none. `near` is a
+    /// guess of the zone's index among the zones in order, and may become the index after it; a
+    /// wrong guess only costs time.
     pub fn life_at(&self, near: &mut usize, event: &Event, zone: &Zone) -> Option<&Life>
         ensures { option_map (λ life. life.now) result
             ≡ option_map life_of (row_at self.now event.now zone.now) }
@@ -198,6 +207,10 @@ impl<'a> RowsOf<'a> {
     }
 
     /// Returns all the rows by zone.
+    ///
+    /// # Errors
+    ///
+    /// Out of memory.
     pub fn all(&self, alloc: Global) -> Result<Vec<Row>, Oom>
         ensures { IfOk result (λ rows. rows.items ≡ self.now) }
     {
@@ -207,7 +220,7 @@ impl<'a> RowsOf<'a> {
         }
     }
 
-    /// Returns the number of rows, as a hint that no contract promises.
+    /// Returns the number of rows, which is a hint alone: no contract promises that it is right.
     pub fn count(&self) -> usize {
         match self.rows {
             Some(rows) => rows.count(),
@@ -215,8 +228,9 @@ impl<'a> RowsOf<'a> {
         }
     }
 
-    /// Returns the row of an event in a zone. `near` is a guess of its index, and becomes the index
-    /// after it.
+    /// Returns the row of an event in a zone, or `None` if there is none. `near` is a guess of the
+    /// zone's index among the zones in order, and may become the index after it; a wrong guess only
+    /// costs time.
     pub fn row_at(&self, near: &mut usize, event: &Event, zone: &Zone) -> Option<Row>
         ensures { result ≡ row_at self.now event.now zone.now }
     {
@@ -240,7 +254,7 @@ impl<'a> RowsOf<'a> {
 /// The rows of all events, by event.
 pub type Held = BTreeMap<EventKey, EventRows>;
 
-/// Returns the rows of an event.
+/// Returns a view of the rows of an event, ended or not, which may be none.
 pub fn rows_of<'a>(held: &'a Held, event: &Event) -> RowsOf<'a>
     ensures rows { result ≡ list_at by_event held.now.entries event.now }
     ensures order { IsStrictlySortedBy by_key result }
@@ -251,8 +265,8 @@ pub fn rows_of<'a>(held: &'a Held, event: &Event) -> RowsOf<'a>
     }
 }
 
-/// Whether an event is open: an unended row has an end that is at most half an hour before `t`, or
-/// later.
+/// Whether an event is open at `t`: an unended row of it has an end that is at most half an hour
+/// before `t`, or later, or until further notice.
 pub fn is_open(held: &Held, t: Minute, event: &Event) -> bool
     ensures open { result ≡ list_any (keeps_open t) (list_at by_event held.now.entries event.now) }
     ensures order { IsStrictlySortedBy by_key (list_at by_event held.now.entries event.now) }
@@ -263,7 +277,8 @@ pub fn is_open(held: &Held, t: Minute, event: &Event) -> bool
     }
 }
 
-/// Whether a row of an event that is live at `t` has this period.
+/// Whether a row of an event that is live at `t` (unended, with an end after `t` or until further
+/// notice) has this period. Two begins at `t` or before count as equal.
 pub fn has_period(held: &Held, t: Minute, event: &Event, period: &Period) -> bool
     ensures same { result ≡ list_any (λ r. is_live t r && same_at t r.period period.now)
         (list_at by_event held.now.entries event.now) }
@@ -275,9 +290,14 @@ pub fn has_period(held: &Held, t: Minute, event: &Event, period: &Period) -> boo
     }
 }
 
-/// Puts rows of an event with `life` in `zones`, and enters the event by its number and how far its
-/// rows reach.
-pub fn put_held(
+/// Sets a row of an event with `life` in each of the zones. Adds the event to `events` if it had no
+/// rows, and, if the life is unended and the event's hazard has a rank, adds to `reaches` the end
+/// of the life in the areas of the zones. On `Oom` the three may no longer agree.
+///
+/// # Errors
+///
+/// Out of memory.
+pub fn add_held(
     alloc: Global,
     held: &mut Held,
     events: &mut Events,
@@ -299,12 +319,17 @@ pub fn put_held(
     let known = held
         .entry(EventKey { event: *event })?
         .or_insert(EventRows::new(alloc));
-    put_event_of(alloc, events, known.has_rows(event), event)?;
+    add_new_event(alloc, events, known.has_rows(event), event)?;
     known.put(alloc, event, life, zones)?;
     reach_each(reaches, event, life, zones)
 }
 
-/// Returns the rows of all events that are live at `t`, event by event.
+/// Returns the rows of all events that are live at `t` (unended, with an end after `t` or until
+/// further notice), by event, then zone.
+///
+/// # Errors
+///
+/// Out of memory.
 pub fn all_shown(alloc: Global, held: &Held, t: Minute) -> Result<Vec<Row>, Oom>
     ensures { IfOk result
         (λ rows. rows.items ≡ flat_map (shown_at t) (values_of held.now.entries)) }
@@ -316,14 +341,19 @@ pub fn all_shown(alloc: Global, held: &Held, t: Minute) -> Result<Vec<Row>, Oom>
     Ok(all)
 }
 
-/// Returns the rows in a map by zone, then event.
+/// Returns the rows in a map by zone, then event. Of several rows of one zone and event the first
+/// is kept.
+///
+/// # Errors
+///
+/// Out of memory.
 pub fn seated(alloc: Global, rows: &[Row]) -> Result<Seated, Oom>
     ensures { IfOk result (λ seated. values_of seated.entries ≡ puts rows.now []) }
 {
     let mut seated = BTreeMap::new(alloc);
     let mut before = None;
     for place in (0..rows.len()).rev() {
-        put_seated(&mut seated, &rows[place], &mut before)?;
+        add_seated(&mut seated, &rows[place], &mut before)?;
     }
     Ok(seated)
 }

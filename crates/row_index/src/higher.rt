@@ -6,7 +6,7 @@ ghost use Rattle.event_life.specs.Higher.{family_of, is_above};
 ghost use Rattle.hazard_types.specs.Hazards.{facts_of};
 ghost use Rattle.row_index.specs.Numbers.{is_in_zone};
 ghost use Rattle.row_index.specs.Seating.{AreSeated, key_of_line, upgrades};
-ghost use Rattle.row_index.specs.Steps.{rises_over, stays_over, still_over, is_free, is_overlapped};
+ghost use Rattle.row_index.specs.Steps.{rises_over, stays_over, still_over, is_untouched, is_overlapped};
 ghost use Rattle.row_index.specs.Telling.{Tells};
 
 use crate::seats::{Seated, Seats, add_seat, has_seat, row_in, seated_in};
@@ -37,7 +37,11 @@ pub fn any_upgrades(lines: &[Line]) -> bool
     lines.iter().any(|line| is_upgrade(&line.action))
 }
 
-/// Returns the zones and events of the UPG lines.
+/// Returns the keys (zone and event) of the UPG lines among `lines`.
+///
+/// # Errors
+///
+/// Out of memory.
 pub fn upgraded_by(alloc: Global, lines: &[Line]) -> Result<Seats, Oom>
     ensures { IfOk result (λ seats. Tells upgrades key_of_line seats.keys lines.now) }
 {
@@ -61,7 +65,7 @@ pub fn rank_of(hazard: &Hazard) -> Rank
     }
 }
 
-/// Whether `high` is a greater rank of the same family than `low`.
+/// Whether `high` is a greater rank than `low`, of the same family. False if one of them is `None`.
 pub fn is_above(high: &Rank, low: &Rank) -> bool
     ensures { result ≡ is_above high.now low.now }
 {
@@ -71,7 +75,9 @@ pub fn is_above(high: &Rank, low: &Rank) -> bool
     *family == *other && *under < *rank
 }
 
-/// Whether `row` is live, ranks above `low` and overlaps `own`.
+/// Whether `row` is live at `t`, its hazard has a greater rank than `low` in the same family, and
+/// its period overlaps that of `own`: each begins before the other ends. The zones of the two rows
+/// are not compared.
 pub fn rises_over(t: Minute, low: &Rank, own: &Row, row: &Row) -> bool
     ensures { result ≡ rises_over t low.now own.now row.now }
 {
@@ -80,16 +86,18 @@ pub fn rises_over(t: Minute, low: &Rank, own: &Row, row: &Row) -> bool
         && is_above(&rank_of(&row.event.hazard), low)
 }
 
-/// Whether `row` is live, ranks above `low` and overlaps `own`, and no UPG line has its event and
-/// zone.
+/// Whether `row` is live at `t`, its hazard has a greater rank than `low` in the same family, its
+/// period overlaps that of `own`, and its key (zone and event) is not in `upgraded`, the keys of
+/// the UPG lines. The zones of the two rows are not compared.
 fn stays_over(upgraded: &Seats, t: Minute, low: &Rank, own: &Row, row: &Row) -> bool
     ensures { result ≡ stays_over t low.now upgraded.now.keys own.now row.now }
 {
     rises_over(t, low, own, row) && !has_seat(upgraded, &row.event, &row.zone)
 }
 
-/// Whether a row that the product leaves in the zone of `own` is live, ranks above `low` and
-/// overlaps `own`, and no UPG line has its event and zone.
+/// Whether, among the rows in the zone of `own` that lines of the product leave, one is live at
+/// `t`, has a hazard of a greater rank than `low` in the same family, overlaps `own`, and is of an
+/// event that no UPG line has in that zone.
 pub fn any_counted_over(changed: &Changed, t: Minute, low: &Rank, own: &Row) -> bool
     requires { AreSeated changed.now.counted.entries }
     ensures { result ≡ list_any (stays_over t low.now changed.now.upgraded.keys own.now)
@@ -103,27 +111,31 @@ pub fn any_counted_over(changed: &Changed, t: Minute, low: &Rank, own: &Row) -> 
     false
 }
 
-/// Whether no UPG line has an event in a zone, and no other lawful line leaves a row of it there.
-pub fn is_free(changed: &Changed, zone: &Zone, event: &Event) -> bool
+/// Whether the product changes nothing of an event in a zone: none of its UPG lines has both, and
+/// no other lawful line of it leaves a row of the event there. `changed` is what the product
+/// changes.
+pub fn is_untouched(changed: &Changed, zone: &Zone, event: &Event) -> bool
     requires { AreSeated changed.now.counted.entries }
-    ensures { result ≡ is_free (values_of changed.now.counted.entries) changed.now.upgraded.keys
+    ensures { result ≡ is_untouched (values_of changed.now.counted.entries) changed.now.upgraded.keys
         zone.now event.now }
 {
     !has_seat(&changed.upgraded, event, zone) && row_in(&changed.counted, event, zone).is_none()
 }
 
-/// Whether `row` is live, ranks above `low` and overlaps `own`, and the product changes nothing of
-/// its event in the zone of `own`.
+/// Whether `row`, one from before the product, is live at `t`, has a hazard of a greater rank than
+/// `low` in the same family, and overlaps `own`, and the product changes nothing of its event in
+/// the zone of `own`.
 fn is_still_over(changed: &Changed, t: Minute, low: &Rank, own: &Row, row: &Row) -> bool
     requires { AreSeated changed.now.counted.entries }
     ensures { result ≡ still_over t low.now
         (values_of changed.now.counted.entries) changed.now.upgraded.keys own.now row.now }
 {
-    rises_over(t, low, own, row) && is_free(changed, &own.zone, &row.event)
+    rises_over(t, low, own, row) && is_untouched(changed, &own.zone, &row.event)
 }
 
-/// Whether a row from before the product in the zone of `own` is live, ranks above `low` and
-/// overlaps `own`, and the product changes nothing of its event there.
+/// Whether, among the rows from before the product in the zone of `own`, one is live at `t`, has a
+/// hazard of a greater rank than `low` in the same family, overlaps `own`, and is of an event of
+/// which the product changes nothing in that zone.
 fn any_still_over(changed: &Changed, t: Minute, low: &Rank, own: &Row) -> bool
     requires counted { AreSeated changed.now.counted.entries }
     requires higher { AreSeated changed.now.higher.entries }
@@ -140,7 +152,9 @@ fn any_still_over(changed: &Changed, t: Minute, low: &Rank, own: &Row) -> bool
     false
 }
 
-/// Whether a higher row overlaps `own` after the product, or the hazard of `own` has no rank.
+/// Whether after the product a row in the zone of `own` is live at `t`, has a hazard of a greater
+/// rank of the family than that of `own`, and overlaps `own`; true also if the hazard of `own` has
+/// no rank. `own` is the row of a UPG line before the product.
 ///
 /// Source: docs/DECISIONS.md, "Lives".
 pub fn is_overlapped(changed: &Changed, t: Minute, own: &Row) -> bool

@@ -7,8 +7,8 @@ ghost use Rattle.hazard_types.specs.declared.line.Row.{Row as RowValue};
 ghost use Rattle.std.specs.Map.{values_of};
 ghost use Rattle.event_life.specs.declared.life.Breach.TheVariants.{Twice};
 ghost use Rattle.event_life.specs.Higher.{family_of};
-ghost use Rattle.event_life.specs.Products.{put, row_at, row_after, is_open, going_in, event_of, has_rows, is_held, has_same, is_routine, is_upgrade, is_second, life_at, around_but_higher, has_higher, breach_in, judged, rows_after_all_but_upgrades};
-ghost use Rattle.event_life.specs.Seats.{may_count};
+ghost use Rattle.event_life.specs.Products.{put, row_at, row_after, is_open, latest_open_event, event_of, has_rows, is_number_held, has_opened_period, is_routine, is_upgrade, is_second, life_at, around_but_higher, has_higher, breach_in, judged, rows_after_all_but_upgrades};
+ghost use Rattle.event_life.specs.Seats.{may_be_higher};
 ghost use Rattle.event_life.specs.Shown.{shown_at};
 ghost use Rattle.event_life.specs.Table.{breach_of_line};
 ghost use Rattle.row_index.specs.Holding.{AreNear, AreRowsOf};
@@ -23,7 +23,7 @@ use crate::live::{Zones, add_rows, lesser, needed, upgraded_ranks, upgraded_zone
 use crate::look::{asks_alike, life_of, nothing_around, opens};
 use crate::numbers::{Events, Number, events_at, number_of};
 use crate::reach::{Reaches, events_above};
-use crate::seats::{Seated, all_rows, count_row};
+use crate::seats::{Seated, add_seated_if, all_rows};
 use crate::spoken::SeenKeys;
 use event_life::{
     Around, Breach, Life, is_routine, is_upgrade, later_event, leaves_row, life_step, opened_period,
@@ -69,15 +69,16 @@ impl RowIndex {
         }
     }
 
-    /// Returns the rows of an event.
+    /// Returns the rows of an event, ended or not; a view without rows if it has none.
     pub(crate) fn rows_of(&self, event: &Event) -> RowsOf<'_>
         ensures { AreRowsOf self.now event.now result }
     {
         rows_of(&self.held, event)
     }
 
-    /// Returns the rows of an event. `near` and `rows` are the previous line's event and its rows,
-    /// usually the same event's.
+    /// Returns the rows of `event`. `near` is the event of the look-up before this one, or `None`
+    /// if there was none, and `rows` are the rows of that event, which are returned again if it is
+    /// the same.
     pub(crate) fn rows_near<'a>(
         &'a self,
         near: &Option<Event>,
@@ -99,8 +100,9 @@ impl RowIndex {
         }
     }
 
-    /// Returns the row of a line's event in its zone. `rows` are the event's, and `near` is a guess
-    /// of the row's index among them.
+    /// Returns the row of a line's event in its zone, or `None` if there is none. `rows` are the
+    /// event's. `near` is a guess of the row's index among them, which the call may change; a wrong
+    /// guess only costs time.
     fn own_row(&self, rows: &RowsOf<'_>, near: &mut usize, line: &Line) -> Option<Row>
         requires { AreRowsOf self.now line.now.event rows.now }
         ensures { result ≡ row_at self.now line.now.event line.now.zone }
@@ -108,7 +110,7 @@ impl RowIndex {
         rows.row_at(near, &line.event, &line.zone)
     }
 
-    /// Returns the row of an event in a zone.
+    /// Returns the row of an event in a zone, or `None` if there is none.
     fn row_at(&self, event: &Event, zone: &Zone) -> Option<Row>
         ensures { result ≡ row_at self.now event.now zone.now }
     {
@@ -116,7 +118,7 @@ impl RowIndex {
         self.rows_of(event).row_at(&mut near, event, zone)
     }
 
-    /// Whether a line's event has rows, ended or not. `rows` are the event's.
+    /// Whether a line's event has rows, ended or not. `rows` are the rows of that event.
     fn has_rows(&self, rows: &RowsOf<'_>, line: &Line) -> bool
         requires { AreRowsOf self.now line.now.event rows.now }
         ensures { result ≡ has_rows self.now line.now.event }
@@ -124,14 +126,16 @@ impl RowIndex {
         rows.has_rows(&line.event)
     }
 
-    /// Whether the event is open: it has an unended row whose end is at most half an hour past.
+    /// Whether the event is open at `t`: it has an unended row whose end is at most half an hour
+    /// before `t`, or later, or until further notice.
     fn is_open(&self, t: Minute, event: &Event) -> bool
         ensures { result ≡ is_open self.now t event.now }
     {
         is_open(&self.held, t, event)
     }
 
-    /// Whether one of `events` is open and of an earlier year than `event`.
+    /// Whether one of `events` is of an earlier year than `event` and open at `t`: it has an
+    /// unended row whose end is at most half an hour before `t`, or later, or until further notice.
     fn any_held(&self, t: Minute, events: &[Event], event: &Event) -> bool
         ensures { result
             ≡ list_any (λ d. nat_lt d.year event.now.year && is_open self.now t d) events.now }
@@ -144,21 +148,27 @@ impl RowIndex {
         false
     }
 
-    /// Whether an open event of an earlier year has this hazard and number.
-    fn is_held(&self, t: Minute, event: &Event) -> bool
-        ensures { result ≡ is_held self.now t event.now }
+    /// Whether an event with the hazard and number of `event`, but of an earlier year, is open at
+    /// `t`: it has an unended row whose end is at most half an hour before `t`, or later, or until
+    /// further notice.
+    fn is_number_held(&self, t: Minute, event: &Event) -> bool
+        ensures { result ≡ is_number_held self.now t event.now }
     {
         self.any_held(t, events_at(&self.events, &number_of(event)), event)
     }
 
-    /// Whether a live row of the line's event has the period that the line would open.
-    fn has_same(&self, t: Minute, line: &Line) -> bool
-        ensures { result ≡ has_same self.now t line.now }
+    /// Whether a row of the line's event that is live at `t`, the product's issue minute, has the
+    /// period that the line (NEW, EXA or EXB) would open. A row is live if it is unended and its
+    /// end is after `t`. Two begins at `t` or before count as equal.
+    fn has_opened_period(&self, t: Minute, line: &Line) -> bool
+        ensures { result ≡ has_opened_period self.now t line.now }
     {
         has_period(&self.held, t, &line.event, &opened_period(line, t))
     }
 
-    /// Returns the open event of the greatest year among `events`.
+    /// Returns the event of the greatest year among those of `events` that are open at `t`, or
+    /// `None` if none is. An event is open if it has an unended row whose end is at most half an
+    /// hour before `t`, or later, or until further notice.
     fn latest_open(&self, t: Minute, events: &[Event]) -> Option<Event>
         ensures { result ≡ latest_open self.now t events.now }
     {
@@ -171,15 +181,19 @@ impl RowIndex {
         best
     }
 
-    /// Returns the open event of the greatest year with a hazard and number.
-    fn going_in(&self, t: Minute, number: &Number) -> Option<Event>
-        ensures { result ≡ going_in self.now number.now.hazard number.now.etn t }
+    /// Returns the event of the greatest year among those with this hazard and number that are open
+    /// at `t`, or `None` if none is. An event is open if it has an unended row whose end is at most
+    /// half an hour before `t`, or later, or until further notice.
+    fn latest_open_event(&self, t: Minute, number: &Number) -> Option<Event>
+        ensures { result ≡ latest_open_event self.now number.now.hazard number.now.etn t }
     {
         self.latest_open(t, events_at(&self.events, number))
     }
 
-    /// Returns the open event of a line of a text, or `None` if the line is NEW or no event of its
-    /// hazard and number is open.
+    /// Returns the event of the greatest year among those with the hazard and number of a P-VTEC
+    /// line that are open at `t`. `None` for a NEW line, or if none is open. An event is open if it
+    /// has an unended row whose end is at most half an hour before `t`, or later, or until further
+    /// notice.
     fn event_going(&self, t: Minute, vtec: &Vtec) -> Option<Event>
         ensures { result ≡ event_going self.now t vtec.now }
     {
@@ -189,13 +203,15 @@ impl RowIndex {
         };
         match vtec.action {
             Action::New => None,
-            _ => self.going_in(t, &number),
+            _ => self.latest_open_event(t, &number),
         }
     }
 
-    /// Returns the event of a line of a text: NEW opens one of the year of issue; any other line is
-    /// of the open event of its hazard and number, or of one of the year of issue if none is open.
-    /// `self` has the rows just before the product, and `t` is the product's issue minute.
+    /// Returns the event of a P-VTEC line, whose text has no year. For NEW it is of the year of
+    /// `t`, the product's issue minute; otherwise it is the event with the line's hazard and number
+    /// that is open at `t`, of the greatest year if there are several, or one of the year of `t` if
+    /// none is open. `self` has the rows just before the product, and an event is open if it has an
+    /// unended row whose end is at most half an hour before `t`, or later.
     pub fn event_of(&self, t: Minute, vtec: &Vtec) -> Event
         ensures { result ≡ event_of self.now t vtec.now }
     {
@@ -205,13 +221,16 @@ impl RowIndex {
         }
     }
 
-    /// Returns the facts about other rows that a NEW line is judged by. `rows` are its event's.
+    /// Returns the facts about other rows that a NEW line is judged by: `opened` is whether its
+    /// event has rows, and `held` whether it has none and an event of its hazard and number, but of
+    /// an earlier year, is open at `t`, the issue minute. `going` and `same` are false. `rows` are
+    /// the event's, and `higher` goes into the result as it is.
     fn around_new(&self, rows: &RowsOf<'_>, t: Minute, line: &Line, higher: bool) -> Around
         requires { AreRowsOf self.now line.now.event rows.now }
         ensures { result ≡ around_new self.now t line.now higher }
     {
         let opened = self.has_rows(rows, line);
-        let held = !opened && self.is_held(t, &line.event);
+        let held = !opened && self.is_number_held(t, &line.event);
         Around {
             opened,
             going: false,
@@ -221,12 +240,15 @@ impl RowIndex {
         }
     }
 
-    /// Returns the facts about other rows that an EXA or EXB line is judged by.
+    /// Returns the facts about other rows that an EXA or EXB line is judged by: `going` is whether
+    /// its event is open at `t`, the issue minute, and `same` whether it is and one of its rows
+    /// that are live at `t` has the period that the line would open. `opened` and `held` are false.
+    /// `higher` goes into the result as it is.
     fn around_joining(&self, t: Minute, line: &Line, higher: bool) -> Around
         ensures { result ≡ around_joining self.now t line.now higher }
     {
         let going = self.is_open(t, &line.event);
-        let same = going && self.has_same(t, line);
+        let same = going && self.has_opened_period(t, line);
         Around {
             opened: false,
             going,
@@ -236,8 +258,10 @@ impl RowIndex {
         }
     }
 
-    /// Returns the facts about other rows that a line is judged by, as far as its action needs
-    /// them. `rows` are its event's, and `higher` goes into the result as it is.
+    /// Returns the facts about other rows that a line of a product issued at `t` is judged by:
+    /// `opened` and `held` for NEW, `going` and `same` for EXA and EXB, and none for any other
+    /// action. Facts that the action does not need are false. `rows` are the event's, and `higher`
+    /// goes into the result as it is.
     pub(crate) fn around(&self, rows: &RowsOf<'_>, t: Minute, line: &Line, higher: bool) -> Around
         requires { AreRowsOf self.now line.now.event rows.now }
         ensures { result ≡ asked_around line.now.action self.now t line.now higher }
@@ -249,8 +273,10 @@ impl RowIndex {
         }
     }
 
-    /// Returns what `around` returns for a line whose row is overlapped. `asked` is the previous
-    /// line with its facts, which are used again if both lines ask for the same.
+    /// Returns the facts about other rows that a line of a product issued at `t` is judged by, as
+    /// far as its action needs them, with `higher` true. `asked` is the line before it with its
+    /// facts, or `None` if there is none; these facts are returned again if both lines have the
+    /// same action and event and would open the same period. `rows` are those of the line's event.
     fn around_near(
         &self,
         asked: &Option<(Line, Around)>,
@@ -277,8 +303,10 @@ impl RowIndex {
         }
     }
 
-    /// Returns the first breach of a line that is not routine, by the life of its event in its zone
-    /// and the facts about other rows.
+    /// Returns the first breach of a line that is not ROU, in a product issued at `t`, by the life
+    /// of its event in its zone and `around`, the facts about other rows; `None` if it is lawful.
+    /// `rows` are the event's. `near` is a guess of the row's index among them, which the call may
+    /// change; a wrong guess only costs time.
     fn step_breach(
         &self,
         rows: &RowsOf<'_>,
@@ -300,8 +328,11 @@ impl RowIndex {
         }
     }
 
-    /// Returns the first breach of a line. `second` says whether an earlier line of the product has
-    /// its event and zone.
+    /// Returns the first breach of a line of a product issued at `t`, or `None` if it is lawful or
+    /// ROU. `second` is whether an earlier line of the product other than ROU has its event and
+    /// zone, which is the breach `Twice`, and `around` has the facts about other rows. `rows` are
+    /// those of its event, and `near` is a guess of the row's index among them, which the call may
+    /// change; a wrong guess only costs time.
     fn first_breach(
         &self,
         rows: &RowsOf<'_>,
@@ -327,8 +358,9 @@ impl RowIndex {
         self.step_breach(rows, near, t, line, around)
     }
 
-    /// Returns the row that a lawful line leaves. `rows` are its event's, and `near` is a guess of
-    /// the row's index among them.
+    /// Returns the row that a lawful line of a product issued at `t` leaves. `rows` are its event's
+    /// rows before the product. `near` is a guess of the row's index among them, which the call may
+    /// change; a wrong guess only costs time.
     fn row_after(&self, rows: &RowsOf<'_>, near: &mut usize, t: Minute, line: &Line) -> Row
         requires { AreRowsOf self.now line.now.event rows.now }
         ensures { result ≡ row_after self.now t line.now }
@@ -342,9 +374,11 @@ impl RowIndex {
         }
     }
 
-    /// Whether a line, if it is no second one, is lawful, not routine and not UPG, so that the row
-    /// it leaves may be the higher row of a UPG line.
-    fn may_count(&self, rows: &RowsOf<'_>, near: &mut usize, t: Minute, line: &Line) -> bool
+    /// Whether a line of a product issued at `t`, taken as the first of its event and zone, is
+    /// lawful and neither ROU nor UPG, so that the row it leaves may be the higher row of a UPG
+    /// line. `rows` are its event's. `near` is a guess of the row's index among them, which the
+    /// call may change; a wrong guess only costs time.
+    fn may_be_higher(&self, rows: &RowsOf<'_>, near: &mut usize, t: Minute, line: &Line) -> bool
         requires { AreRowsOf self.now line.now.event rows.now }
         ensures { result ≡ (not (is_routine line.now.action)
             && not (is_upgrade line.now.action)
@@ -361,7 +395,9 @@ impl RowIndex {
         self.step_breach(rows, near, t, line, around).is_none()
     }
 
-    /// Returns the rows that the lawful lines other than UPG leave.
+    /// Returns the rows that the lawful lines of a product leave, other than UPG and ROU lines, by
+    /// zone, then event. A line with the zone and event of an earlier line other than ROU is not
+    /// lawful. `t` is the product's issue minute.
     fn counted(&self, alloc: Global, t: Minute, lines: &[Line]) -> Result<Seated, Oom>
         ensures rows { IfOk result
             (λ counted. values_of counted.entries ≡ rows_after_all_but_upgrades self.now t [] lines.now []) }
@@ -373,8 +409,8 @@ impl RowIndex {
         for line in lines {
             let second = spoken.mark_seen(!is_routine(&line.action), line)?;
             let rows = self.rows_of(&line.event);
-            let lawful = self.may_count(&rows, &mut near, t, line);
-            count_row(
+            let lawful = self.may_be_higher(&rows, &mut near, t, line);
+            add_seated_if(
                 &mut counted,
                 is_counted(second, lawful),
                 &self.row_after(&rows, &mut near, t, line),
@@ -383,8 +419,10 @@ impl RowIndex {
         Ok(counted)
     }
 
-    /// Puts the row that a line leaves, if the line is lawful, not routine and not UPG. The line is
-    /// taken as the first of its event and zone.
+    /// Adds to `counted` the row that a line of a product issued at `t` leaves, if the line, taken
+    /// as the first of its event and zone, is lawful and neither ROU nor UPG. `rows` are its
+    /// event's. `near` is a guess of the row's index among them, which the call may change; a wrong
+    /// guess only costs time.
     fn count_first(
         &self,
         counted: &mut Seated,
@@ -401,14 +439,16 @@ impl RowIndex {
             else values_of counted.old.entries)) }
         ensures seated { OnOk result (AreSeated counted.new.entries) }
     {
-        if !self.may_count(rows, near, t, line) {
+        if !self.may_be_higher(rows, near, t, line) {
             return Ok(());
         }
         let row = self.row_after(rows, near, t, line);
-        count_row(counted, true, &row)
+        add_seated_if(counted, true, &row)
     }
 
-    /// `counted` for lines of which none is a second one of its event and zone.
+    /// Returns the rows that the lawful lines of a product leave, other than UPG and ROU lines, by
+    /// zone, then event. No line may have the zone and event of an earlier one that is not ROU. `t`
+    /// is the product's issue minute.
     pub(crate) fn counted_first(
         &self,
         alloc: Global,
@@ -434,7 +474,8 @@ impl RowIndex {
         Ok(counted)
     }
 
-    /// Returns the rows of `events` in `zones` that are live at `t`.
+    /// Returns the rows of `events` in `zones` that are live at `t` (unended, with an end after `t`
+    /// or until further notice), by zone, then event.
     fn live_rows(
         &self,
         alloc: Global,
@@ -454,8 +495,9 @@ impl RowIndex {
         Ok(higher)
     }
 
-    /// Returns the least minute after which a row must end to be live and overlap the row of one of
-    /// the UPG lines, or `None` if no UPG line has a row.
+    /// Returns the least minute among these: for each UPG line whose event has a row in the line's
+    /// zone, the later of `t` and the begin of this row. `None` if there is no such line. Every row
+    /// that is live at `t` and overlaps one of these rows ends after the result.
     fn least_needed(&self, t: Minute, lines: &[Line]) -> Option<Minute>
         ensures { result ≡ least_of self.now t None lines.now }
     {
@@ -472,7 +514,9 @@ impl RowIndex {
         least
     }
 
-    /// Returns a minute after which every row ends that is live and overlaps the row of a UPG line.
+    /// Returns the least minute among these: for each UPG line whose event has a row in the line's
+    /// zone, the later of `t` and the begin of this row. It is `t` if there is no such line. Every
+    /// row that is live at `t` and overlaps one of these rows ends after the result.
     fn needed_from(&self, t: Minute, lines: &[Line]) -> Minute
         ensures { result ≡ unwrap_or (least_of self.now t None lines.now) t }
     {
@@ -482,8 +526,10 @@ impl RowIndex {
         }
     }
 
-    /// Returns rows of events that rank above those of the UPG lines, in the zones of these lines.
-    /// All that are live and overlap the row of one of them are there.
+    /// Returns rows in the zones of the UPG lines among `lines`, by zone, then event, of events
+    /// whose hazard ranks above that of one of these lines in the same family. All of these that
+    /// are live at `t`, the issue minute, and overlap the row of a UPG line in the same zone are
+    /// there; others may be too.
     fn higher(&self, alloc: Global, t: Minute, lines: &[Line]) -> Result<Seated, Oom>
         ensures rows { IfOk result
             (λ higher. AreOver self.now t lines.now (values_of higher.entries)) }
@@ -496,8 +542,10 @@ impl RowIndex {
         self.live_rows(alloc, from, &zones, &events)
     }
 
-    /// Returns what a product changes for the search for higher rows. `counted` are the rows that
-    /// its lawful lines other than UPG leave.
+    /// Returns what a product issued at `t` changes for the search for higher rows: `counted`,
+    /// which must be the rows that its lawful lines other than UPG and ROU leave, the keys (zone
+    /// and event) of its UPG lines, and the rows before it that may be higher than those of its UPG
+    /// lines.
     pub(crate) fn change_with(
         &self,
         alloc: Global,
@@ -524,8 +572,10 @@ impl RowIndex {
         })
     }
 
-    /// Returns what a product changes for the search for higher rows. Without a UPG line it is
-    /// empty, since none is looked for.
+    /// Returns what a product issued at `t` changes for the search for higher rows: the rows that
+    /// its lawful lines other than UPG and ROU leave, the keys (zone and event) of its UPG lines,
+    /// and the rows before it that may be higher than those of its UPG lines. All three are empty
+    /// if it has no UPG line, since none is looked for then.
     pub(crate) fn change_of(&self, alloc: Global, t: Minute, lines: &[Line]) -> Result<Changed, Oom>
         ensures changed { list_any upgrades lines.now ≡ true
             → IfOk result
@@ -546,8 +596,11 @@ impl RowIndex {
         self.change_with(alloc, t, lines, counted)
     }
 
-    /// Whether a higher row overlaps the row of a UPG line after the product, or the line's hazard
-    /// has no rank. `own` is the line's row, if it has one.
+    /// Whether a UPG line has a higher row: one in its zone that after the product is live at `t`,
+    /// the issue minute, has a higher rank of the hazard's family, and overlaps `own`, the row of
+    /// the line's event in its zone before the product. True if the line's hazard has no rank;
+    /// otherwise false if `own` is `None`. `changed` is what the product changes for the search, as
+    /// `change_of` returns it.
     fn has_higher(&self, changed: &Changed, t: Minute, line: &Line, own: &Option<Row>) -> bool
         requires counted { AreSeated changed.now.counted.entries }
         requires higher { AreSeated changed.now.higher.entries }
@@ -567,8 +620,12 @@ impl RowIndex {
         }
     }
 
-    /// Returns the first breach of a line of a product. `rows` are its event's, and `around` has
-    /// the facts about other rows if it is no UPG line.
+    /// Returns the first breach of a line of a product issued at `t`, or `None` if it is lawful or
+    /// ROU. `second` is whether an earlier line other than ROU has its event and zone; `changed`,
+    /// what the product changes for the search for higher rows, is read for a UPG line alone, and
+    /// `around`, the facts about other rows, for any other line. `rows` are those of its event, and
+    /// `near` is a guess of the row's index among them, which the call may change; a wrong guess
+    /// only costs time.
     pub(crate) fn breach_in(
         &self,
         t: Minute,
@@ -602,8 +659,9 @@ impl RowIndex {
     }
 
     /// Returns the lines of a product in order, each with its first breach, or `None` if it is
-    /// lawful or routine. `self` has the rows just before the product, and `t` is the product's
-    /// issue minute.
+    /// lawful or routine (ROU). The order of `lines` is that of the text: a line other than ROU
+    /// with the event and zone of an earlier one other than ROU is in breach. `self` has the rows
+    /// just before the product, and `t` is the product's issue minute.
     ///
     /// # Errors
     ///
@@ -652,7 +710,8 @@ impl RowIndex {
     }
 }
 
-/// Whether a line leaves a row that counts: it is lawful and no second one of its event and zone.
+/// Whether a line leaves a row that counts: it is lawful and not `second`, which is whether an
+/// earlier line of the product other than ROU has its event and zone.
 fn is_counted(second: bool, lawful: bool) -> bool
     ensures { result ≡ (not second && lawful) }
 {

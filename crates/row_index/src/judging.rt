@@ -3,7 +3,6 @@
 ghost use Rattle.std.specs.Prelude.{◌≡◌, ◌≤◌, ◌++◌, ◌∷◌, [], List as Seq, length, take, map, option_map, true, IfOk, OnOk};
 ghost use Rattle.std.specs.List.{AllByRecursion, list_any};
 ghost use Rattle.std.specs.Map.{values_of};
-ghost use Rattle.hazard_types.specs.Places.{Place};
 ghost use Rattle.hazard_types.specs.declared.line.Line.{Line as LineValue};
 ghost use Rattle.event_life.specs.Products.{breach_in, judged};
 ghost use Rattle.row_index.specs.Groups.{AreJudged, AreLonger, AreServed, IsAlike, IsAsking, IsLifeIn, IsNext, IsServed, Serves, has_upgrade, zones_of};
@@ -33,7 +32,7 @@ struct Asking<'a> {
     around: Around,
 }
 
-/// Whether the two lives are equal, or both are `None`.
+/// Whether the lives `found` and `life` are equal, or both are `None`.
 fn is_found(found: &Option<Life>, life: Option<&Life>) -> bool
     ensures { result ≡ same_life found.now (option_map (λ l. l.now) life.entry) }
 {
@@ -44,7 +43,10 @@ fn is_found(found: &Option<Life>, life: Option<&Life>) -> bool
     }
 }
 
-/// Returns how many of the zones, from the first on, have the life `found` of an event.
+/// Returns in how many of the zones, from the first on without a gap, the row of the event has the
+/// life `found`, or there is no row if `found` is `None`. `rows` are the event's. `near` is a guess
+/// of the first zone's index among those of the rows, which the call may change; a wrong guess only
+/// costs time.
 fn count_alike(
     rows: &RowsOf<'_>,
     near: &mut usize,
@@ -65,14 +67,15 @@ fn count_alike(
     count
 }
 
-/// Whether two verdicts have the same life and the same breach.
+/// Whether two verdicts have the same life that their line found and the same breach; their lines
+/// are not compared.
 fn have_same_findings(a: &Verdict, b: &Verdict) -> bool
     ensures { result ≡ true → (a.now.found ≡ b.now.found) × (a.now.breach ≡ b.now.breach) }
 {
     same_life(&a.found, &b.found) && a.breach == b.breach
 }
 
-/// Returns the run with one more verdict.
+/// Returns the run with `verdict` after the verdicts that it has.
 fn with_verdict(run: Run, verdict: &Verdict) -> Result<Run, Oom>
     ensures zones { IfOk result (λ more. more.zones ≡ run.zones) }
     ensures verdicts { IfOk result (λ more. more.verdicts ≡ run.verdicts ++ verdict.now ∷ []) }
@@ -83,7 +86,11 @@ fn with_verdict(run: Run, verdict: &Verdict) -> Result<Run, Oom>
 }
 
 impl RowIndex {
-    /// Judges a line in one zone.
+    /// Returns the verdict on the line of `asking`, which has all that the line is judged by, in
+    /// `zone`: the life that its event has there, and its first breach there as the first line of
+    /// its zone and event. The line in the verdict is that of `asking`, whatever its zone. `near`
+    /// is a guess of the row's index among the event's, which the call may change; a wrong guess
+    /// only costs time.
     fn verdict_at(&self, asking: &Asking<'_>, near: &mut usize, zone: &Zone) -> Verdict
         requires { IsAsking self.now asking.now }
         ensures line { result.line ≡ asking.now.line }
@@ -110,7 +117,10 @@ impl RowIndex {
         }
     }
 
-    /// Returns in how many of the zones, from the first on, a UPG line has this verdict.
+    /// Returns in how many of the zones, from the first on without a gap, the UPG line of `asking`
+    /// finds the same life and has the same breach as in `verdict`, its verdict in another zone.
+    /// `near` is a guess of the first zone's index among those of the event's rows, which the call
+    /// may change; a wrong guess only costs time.
     fn count_upgraded(
         &self,
         asking: &Asking<'_>,
@@ -136,10 +146,12 @@ impl RowIndex {
         count
     }
 
-    /// Judges a line in `first`, and returns its verdict and in how many zones at the start of
-    /// `rest` it has the same. A line other than UPG is judged by its life alone, so the zones are
-    /// compared by that.
-    fn find_first(
+    /// Returns the verdict on the line of `asking` in the zone `first`, and how many zones at the
+    /// start of `rest` have the same one. A line other than UPG is judged by its event's life in
+    /// the zone alone, so for it only these lives are compared. `near` is a guess of the zone's
+    /// index among those of the event's rows, which the call may change; a wrong guess only costs
+    /// time.
+    fn judge_first_zone(
         &self,
         asking: &Asking<'_>,
         near: &mut usize,
@@ -164,8 +176,11 @@ impl RowIndex {
         (verdict, more)
     }
 
-    /// Adds runs of `zones` with one more verdict to `out`, split where the verdict differs.
-    fn put_parted(
+    /// Appends runs to `out` that together have `zones` in order, a new one wherever the verdict on
+    /// the line of `asking` changes from a zone to the next. Each has `verdicts`, those on the
+    /// lines before, and then the verdict on this line. `near` is a guess of the first zone's index
+    /// among those of the event's rows, which the call may change.
+    fn add_parted(
         &self,
         alloc: Global,
         asking: &Asking<'_>,
@@ -183,15 +198,18 @@ impl RowIndex {
     {
         let mut left = zones;
         while let Some((first, rest)) = left.split_first() {
-            let (verdict, more) = self.find_first(asking, near, first, rest);
+            let (verdict, more) = self.judge_first_zone(asking, near, first, rest);
             out.push(Run::part(alloc, &left[..more + 1], verdicts, &verdict)?)?;
             left = &rest[more..];
         }
         Ok(())
     }
 
-    /// Adds `run` with one more verdict to `out`, split where the verdict differs.
-    fn put_verdicts(
+    /// Appends `run` to `out`, split in runs wherever the verdict on the line of `asking` changes
+    /// from a zone to the next, each with that verdict after those that `run` has. Appends nothing
+    /// if `run` has no zones. `near` is a guess of the first zone's index among those of the
+    /// event's rows, which the call may change.
+    fn add_verdicts(
         &self,
         alloc: Global,
         asking: &Asking<'_>,
@@ -210,17 +228,20 @@ impl RowIndex {
         let Some((first, rest)) = zones.split_first() else {
             return Ok(());
         };
-        let (verdict, more) = self.find_first(asking, near, first, rest);
+        let (verdict, more) = self.judge_first_zone(asking, near, first, rest);
         if more < rest.len() {
             let verdicts = run.verdicts.as_slice();
             out.push(Run::part(alloc, &zones[..more + 1], verdicts, &verdict)?)?;
-            return self.put_parted(alloc, asking, near, verdicts, &rest[more..], out);
+            return self.add_parted(alloc, asking, near, verdicts, &rest[more..], out);
         }
         out.push(with_verdict(run, &verdict)?)?;
         Ok(())
     }
 
-    /// Judges one line in the zones of all runs.
+    /// Returns the runs, in order, with the verdict on `line` after those that they have; a run is
+    /// split wherever the verdict changes from a zone to the next, and one without zones is left
+    /// out. `changed` is what the product changes for the search for higher rows, and `t` is its
+    /// issue minute. The line's own zone is not read.
     fn judge_line(
         &self,
         alloc: Global,
@@ -248,12 +269,14 @@ impl RowIndex {
         let mut near = 0;
         let mut out = Vec::with_capacity(alloc, runs.len())?;
         for run in runs {
-            self.put_verdicts(alloc, &asking, &mut near, run, &mut out)?;
+            self.add_verdicts(alloc, &asking, &mut near, run, &mut out)?;
         }
         Ok(out)
     }
 
-    /// Judges the lines of one part.
+    /// Returns the runs of one part of a product: they have the part's zones in order, and each has
+    /// the verdicts on all of the part's lines in order. `changed` is what the product changes for
+    /// the search for higher rows, and `t` is its issue minute.
     fn judge_part(
         &self,
         alloc: Global,
@@ -275,7 +298,9 @@ impl RowIndex {
         Ok(runs)
     }
 
-    /// Judges the lines of parts, if none is a second one of its event and zone.
+    /// Returns the runs of a product's parts, part by part: zones in order, with the verdicts on
+    /// the lines of their part. No line may have the zone and event of an earlier one that is not
+    /// ROU, and no two lines of a part may have the same event. `t` is the product's issue minute.
     fn judge_apart(&self, alloc: Global, t: Minute, parts: &[Part<'_>]) -> Result<List<Run>, Oom>
         requires first { AreFirst [] (lines_in parts.now) }
         requires events { AllByRecursion (λ (p : PartValue). HaveOwnEvents p.lines) parts.now }
@@ -293,8 +318,11 @@ impl RowIndex {
         Ok(List::from_vec(all))
     }
 
-    /// Returns what a product changes for the search for higher rows; it is empty without a UPG
-    /// line.
+    /// Returns what a product with these parts, issued at `t`, changes for the search for higher
+    /// rows: the rows that its lawful lines other than UPG and ROU leave, the keys (zone and event)
+    /// of its UPG lines, and the rows before it that may be higher than those of its UPG lines. All
+    /// three are empty if it has no UPG line. No line may have the zone and event of an earlier one
+    /// that is not ROU.
     fn change_in(&self, alloc: Global, t: Minute, parts: &[Part<'_>]) -> Result<Changed, Oom>
         requires first { AreFirst [] (lines_in parts.now) }
         ensures changed { list_any upgrades (lines_in parts.now) ≡ true
@@ -315,9 +343,10 @@ impl RowIndex {
         self.change_with(alloc, t, all, counted)
     }
 
-    /// Judges the lines of a product one by one and returns them as runs: `expand` makes of these
-    /// what `judge` returns. `self` has the rows just before the product, and `t` is the product's
-    /// issue minute.
+    /// Returns the verdicts on the lines of a product as runs of one line each, in the order of
+    /// `lines`; successive lines that differ in their zones alone and have the same verdict are one
+    /// run. A line other than ROU with the event and zone of an earlier one other than ROU is in
+    /// breach. `self` has the rows just before the product, and `t` is the product's issue minute.
     ///
     /// # Errors
     ///
@@ -331,8 +360,10 @@ impl RowIndex {
         self.collected(alloc, judged.as_slice())
     }
 
-    /// Judges the lines of a product for all zones at once that find the same, and returns them as
-    /// runs in the order of the text. `self` has the rows just before the product, and `t` is the
+    /// Returns the verdicts on the lines of a product as runs, part by part and in each part in the
+    /// order of its zones; successive zones with the same verdicts may be one run. `parts` must be
+    /// in the order of the text, since a line other than ROU with the event and zone of an earlier
+    /// one other than ROU is in breach. `self` has the rows just before the product, and `t` is the
     /// product's issue minute.
     ///
     /// # Errors
@@ -359,7 +390,7 @@ impl RowIndex {
     }
 }
 
-/// Whether one of the lines is UPG.
+/// Whether one of the lines of the parts is UPG.
 fn upgrade_in(parts: &[Part<'_>]) -> bool
     ensures { result ≡ list_any has_upgrade parts.now }
 {

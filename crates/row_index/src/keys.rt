@@ -10,6 +10,10 @@ use hazard_types::Oom;
 use std::collections::{BTreeMap, BTreeSet};
 
 /// Adds a key, which may be there already.
+///
+/// # Errors
+///
+/// Out of memory.
 pub fn add_key<K: Ord + Drop>(keys: &mut BTreeSet<K>, key: K) -> Result<(), Oom>
     ensures { OnOk result (keys.new.keys ≡ insert_key K.cmp keys.old.keys key) }
 {
@@ -17,7 +21,11 @@ pub fn add_key<K: Ord + Drop>(keys: &mut BTreeSet<K>, key: K) -> Result<(), Oom>
     Ok(())
 }
 
-/// Adds a key if `counts`.
+/// Adds a key to the set if `counts` is true. The key may be there already.
+///
+/// # Errors
+///
+/// Out of memory.
 pub fn add_counted<K: Ord + Drop>(keys: &mut BTreeSet<K>, counts: bool, key: K) -> Result<(), Oom>
     ensures { OnOk result
         (keys.new.keys ≡ (if counts then insert_key K.cmp keys.old.keys key else keys.old.keys)) }
@@ -28,7 +36,8 @@ pub fn add_counted<K: Ord + Drop>(keys: &mut BTreeSet<K>, counts: bool, key: K) 
     Ok(())
 }
 
-/// Whether the map has a key from `from` to `to`, both included.
+/// Whether the map has a key from `from` to `to`, both included. `from` must not be greater than
+/// `to`.
 pub fn any_between<K: Ord + Drop>(counts: &BTreeMap<K, usize>, from: K, to: K) -> bool
     requires { IsLeBy K.cmp from to }
     ensures { result ≡ list_any (range_contains K.cmp (Included from) (Included to))

@@ -2,10 +2,10 @@
 ghost use Rattle.std.specs.Prelude.{◌≡◌, IfOk};
 ghost use Rattle.event_life.specs.Products.{lawful_of, put_all};
 ghost use Rattle.row_index.specs.LineRows.{rows_of_line, rows_of_run, rows_of_runs};
-ghost use Rattle.row_index.specs.Steps.{put_each};
+ghost use Rattle.row_index.specs.Steps.{add_each};
 ghost use Rattle.row_index.specs.Verdicts.{expand, AreApart, AreFound};
 
-use crate::held::put_held;
+use crate::held::add_held;
 use crate::index::RowIndex;
 use crate::verdicts::{Run, Verdict, life_after_verdict};
 use event_life::Breach;
@@ -13,8 +13,10 @@ use hazard_types::{Line, List, Minute, Oom, Zone};
 use std::alloc::Global;
 
 impl RowIndex {
-    /// Puts the rows that a line leaves in `zones`, if it is lawful.
-    fn put_line(
+    /// Returns the index with the rows that a judged line of a product issued at `t` leaves in
+    /// `zones`, in all of which it has this verdict; unchanged if the line is in breach or ROU. On
+    /// `Oom` the index is dropped.
+    fn add_line(
         self,
         alloc: Global,
         t: Minute,
@@ -22,7 +24,7 @@ impl RowIndex {
         zones: &[Zone],
     ) -> Result<Self, Oom>
         ensures { IfOk result
-            (λ index. index ≡ put_each (rows_of_line t zones.now verdict.now) self) }
+            (λ index. index ≡ add_each (rows_of_line t zones.now verdict.now) self) }
     {
         if !verdict.leaves_row() {
             return Ok(self);
@@ -36,7 +38,7 @@ impl RowIndex {
             mut events,
             mut reach,
         } = self;
-        put_held(
+        add_held(
             alloc,
             &mut held,
             &mut events,
@@ -52,30 +54,33 @@ impl RowIndex {
         })
     }
 
-    /// Puts the rows that the lawful lines of a run leave.
-    fn put_run(self, alloc: Global, t: Minute, run: &Run) -> Result<Self, Oom>
-        ensures { IfOk result (λ index. index ≡ put_each (rows_of_run t run.now) self) }
+    /// Returns the index with the rows that the lawful lines of a run leave in the run's zones,
+    /// line by line. `t` is the product's issue minute. On `Oom` the index is dropped.
+    fn add_run(self, alloc: Global, t: Minute, run: &Run) -> Result<Self, Oom>
+        ensures { IfOk result (λ index. index ≡ add_each (rows_of_run t run.now) self) }
     {
         let mut index = self;
         for verdict in run.verdicts.as_slice() {
-            index = index.put_line(alloc, t, verdict, run.zones.as_slice())?;
+            index = index.add_line(alloc, t, verdict, run.zones.as_slice())?;
         }
         Ok(index)
     }
 
-    /// Puts the rows that the lawful lines of runs leave, run by run.
-    fn put_runs(self, alloc: Global, t: Minute, runs: &[Run]) -> Result<Self, Oom>
-        ensures { IfOk result (λ index. index ≡ put_each (rows_of_runs t runs.now) self) }
+    /// Returns the index with the rows that the lawful lines of the runs leave, run by run. `t` is
+    /// the product's issue minute. On `Oom` the index is dropped.
+    fn add_runs(self, alloc: Global, t: Minute, runs: &[Run]) -> Result<Self, Oom>
+        ensures { IfOk result (λ index. index ≡ add_each (rows_of_runs t runs.now) self) }
     {
         let mut index = self;
         for run in runs {
-            index = index.put_run(alloc, t, run)?;
+            index = index.add_run(alloc, t, run)?;
         }
         Ok(index)
     }
 
-    /// Returns the rows after a product whose lines `judge_parts` or `judge_lines` judged as these
-    /// runs, by the rows in `self`. `t` is the product's issue minute.
+    /// Returns the rows after a product whose lines were judged as these runs, by `judge_parts` or
+    /// `judge_lines` of this index. Each lawful line other than ROU leaves its row in each zone of
+    /// its run, and no other line changes any. `t` is the product's issue minute.
     ///
     /// # Errors
     ///
@@ -87,11 +92,13 @@ impl RowIndex {
             (λ index. index ≡ put_all self t (lawful_of (expand runs.now)) self) }
     {
         let _ = &self.reach;
-        self.put_runs(alloc, t, runs)
+        self.add_runs(alloc, t, runs)
     }
 
-    /// Returns the rows after a product whose lines were judged so: each lawful line leaves its
-    /// row, and no other line changes any. `t` is the product's issue minute.
+    /// Returns the rows after a product with these lines, each given with its first breach, or
+    /// `None`, as `judge` returns it. Each lawful line other than ROU leaves its row, and no other
+    /// line changes any. `self` has the rows just before the product, and `t` is the product's
+    /// issue minute.
     ///
     /// # Errors
     ///

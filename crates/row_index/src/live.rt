@@ -10,7 +10,7 @@ ghost use Rattle.row_index.specs.Telling.{Tells};
 use crate::held::RowsOf;
 use crate::higher::{Rank, rank_of};
 use crate::keys::add_counted;
-use crate::seats::{Seated, count_row};
+use crate::seats::{Seated, add_seated_if};
 use event_life::{is_live, is_upgrade};
 use hazard_types::{Event, Line, Minute, Oom, Row, Zone};
 use std::alloc::Global;
@@ -19,7 +19,11 @@ use std::collections::BTreeSet;
 /// The zones of UPG lines.
 pub type Zones = BTreeSet<Zone>;
 
-/// Returns the zones of the UPG lines.
+/// Returns the zones of the UPG lines among `lines`.
+///
+/// # Errors
+///
+/// Out of memory.
 pub fn upgraded_zones(alloc: Global, lines: &[Line]) -> Result<Zones, Oom>
     ensures { IfOk result (λ zones. Tells upgrades zone_said zones.keys lines.now) }
 {
@@ -48,7 +52,7 @@ fn has_rank(ranks: &[Rank], rank: &Rank) -> bool
     ranks.iter().any(|other| same_rank(other, rank))
 }
 
-/// Adds a rank if `counts`, unless it is in the list.
+/// Adds a rank to the list if `counts` is true and it is not in the list.
 fn add_rank(ranks: &mut Vec<Rank>, counts: bool, rank: Rank) -> Result<(), Oom>
     ensures { OnOk result
         (ranks.new.items ≡ (if counts then with_rank rank ranks.old.items else ranks.old.items)) }
@@ -61,7 +65,12 @@ fn add_rank(ranks: &mut Vec<Rank>, counts: bool, rank: Rank) -> Result<(), Oom>
     Ok(())
 }
 
-/// Returns the ranks of the hazards of UPG lines, each once.
+/// Returns the ranks of the hazards of the UPG lines among `lines`, each once; `None` is among them
+/// if a hazard has no rank.
+///
+/// # Errors
+///
+/// Out of memory.
 pub fn upgraded_ranks(alloc: Global, lines: &[Line]) -> Result<Vec<Rank>, Oom>
     ensures { IfOk result (λ ranks. Tells upgrades rank_of_line ranks.items lines.now) }
 {
@@ -76,7 +85,8 @@ pub fn upgraded_ranks(alloc: Global, lines: &[Line]) -> Result<Vec<Rank>, Oom>
     Ok(ranks)
 }
 
-/// Adds a row if there is one and it is live at `t`.
+/// Adds the row to `higher`, in place of the one with its zone and event, if it is not `None` and
+/// is live at `t`: unended, with an end after `t` or until further notice.
 fn add_row(higher: &mut Seated, t: Minute, row: &Option<Row>) -> Result<(), Oom>
     requires { AreSeated higher.old.entries }
     ensures rows { OnOk result
@@ -84,13 +94,14 @@ fn add_row(higher: &mut Seated, t: Minute, row: &Option<Row>) -> Result<(), Oom>
     ensures seated { OnOk result (AreSeated higher.new.entries) }
 {
     match row {
-        Some(row) => count_row(higher, is_live(row, t), row),
+        Some(row) => add_seated_if(higher, is_live(row, t), row),
         None => Ok(()),
     }
 }
 
-/// Returns the row of an event in a zone if `zones` has it. `rows` are the event's, and `near` is a
-/// guess of the row's index.
+/// Returns the row of an event in a zone, or `None` if the zone is not one of `zones` or there is
+/// no row. `rows` are the event's. `near` is a guess of the row's index among them, which the call
+/// may change; a wrong guess only costs time.
 fn row_among(
     rows: &RowsOf<'_>,
     near: &mut usize,
@@ -107,7 +118,8 @@ fn row_among(
     rows.row_at(near, event, zone)
 }
 
-/// Adds the live rows of an event in `zones`, row by row. `all` and `rows` are both the event's.
+/// Adds to `higher` the rows of an event that are live at `t` and in one of `zones`, by a walk over
+/// `all`. `all` and `rows` are both the event's rows.
 fn add_among(
     higher: &mut Seated,
     all: &[Row],
@@ -130,8 +142,12 @@ fn add_among(
     Ok(())
 }
 
-/// Adds the live rows of an event in `zones`, by a walk over its rows or over the zones, whichever
-/// are fewer. `rows` are the event's.
+/// Adds to `higher` the rows of an event that are live at `t` and in one of `zones`, by a walk over
+/// its rows or over the zones, whichever are fewer. `rows` are the event's.
+///
+/// # Errors
+///
+/// Out of memory.
 pub fn add_rows(
     alloc: Global,
     higher: &mut Seated,
@@ -164,8 +180,9 @@ fn or_later(t: Minute, begin: Minute) -> Minute
     if t.get() <= begin.get() { begin } else { t }
 }
 
-/// Returns the minute after which a row must end to be live at `t` and overlap `own`, the row of a
-/// UPG line. `None` for another line, or if there is no such row.
+/// Returns the later of `t` and the begin of `own`, the row of a UPG line: a row must end after
+/// this minute to be live at `t` and overlap `own`. `None` if the line is not UPG or `own` is
+/// `None`.
 pub fn needed(t: Minute, line: &Line, own: &Option<Row>) -> Option<Minute>
     ensures { result ≡ (if upgrades line.now
         then option_map (λ r. or_later t r.period.begin) own.now
@@ -180,7 +197,8 @@ pub fn needed(t: Minute, line: &Line, own: &Option<Row>) -> Option<Minute>
     }
 }
 
-/// Returns the lesser of the minutes that are there.
+/// Returns the earlier of the two minutes, or the only one if the other is `None`, or `None` if
+/// both are.
 pub fn lesser(found: &Option<Minute>, other: &Option<Minute>) -> Option<Minute>
     ensures { result ≡ lesser found.now other.now }
 {

@@ -46,7 +46,7 @@ pub fn life_of(row: &Row) -> Life
     }
 }
 
-/// Whether there is a life at an index and it is equal to `life`.
+/// Whether there is a life at index `place` and it is equal to `life`.
 fn is_life(lives: &[Life], place: u32, life: &Life) -> bool
     ensures { result ≡ is_life (slice_get lives.now place) life.now }
 {
@@ -56,7 +56,7 @@ fn is_life(lives: &[Life], place: u32, life: &Life) -> bool
     }
 }
 
-/// Returns the life at an index, if there is one.
+/// Returns the life at index `place`, which must be in the list, or `None` if `place` is `None`.
 fn life_there(lives: &[Life], place: &Option<u32>) -> Option<Life>
     requires { IsThere lives.now place.now }
     ensures { result ≡ option_map (life_at lives.now) place.now }
@@ -67,7 +67,8 @@ fn life_there(lives: &[Life], place: &Option<u32>) -> Option<Life>
     }
 }
 
-/// Returns the rows of an event in zones, with the lives at their indices.
+/// Returns the rows of an event in the zones of `seats`, in order. Each has the life in `lives` at
+/// the index that stands beside its zone, which must be in the list.
 fn rows_at(
     alloc: Global,
     event: &Event,
@@ -85,7 +86,8 @@ fn rows_at(
     Ok(rows)
 }
 
-/// Returns the index of a life: `near` if that is equal, else a new last entry.
+/// Returns the index of a life in `lives`: `near` if the life there is equal, else that of a new
+/// last entry, which is appended. `Oom` also if the index would not fit in a `u32`.
 fn place_with(lives: &mut Vec<Life>, near: u32, life: &Life) -> Result<u32, Oom>
     ensures { IfOk result (λ place. IsPlaced lives.old.items lives.new.items place life.now) }
 {
@@ -99,7 +101,9 @@ fn place_with(lives: &mut Vec<Life>, near: u32, life: &Life) -> Result<u32, Oom>
     Ok(place)
 }
 
-/// Returns the index of a life: `near` or that of `zone` if one is equal, else a new last entry.
+/// Returns the index of a life in `lives`: `near` if the life there is equal, else the index that
+/// `zone` has in `seats` if the life there is equal, else that of a new last entry, which is
+/// appended. `Oom` also if the index would not fit in a `u32`.
 fn place_for(
     lives: &mut Vec<Life>,
     seats: &Seats,
@@ -119,8 +123,9 @@ fn place_for(
     }
 }
 
-/// Adds that `zones` zones had the life at an index, unless `zones` is 0.
-fn put_before(
+/// Appends an entry to `befores`: that `zones` zones had the life of `lives` at index `place`, or
+/// no life if `place` is `None`. Appends nothing if `zones` is 0.
+fn add_before(
     befores: &mut Vec<Before>,
     lives: &[Life],
     place: &Option<u32>,
@@ -150,8 +155,9 @@ fn same_place(a: &Option<u32>, b: &Option<u32>) -> bool
     }
 }
 
-/// Counts one more zone, which had the life at `place` or none. The `count` zones before it had
-/// that at `last`, and are added to `befores` if `place` differs.
+/// Counts one more zone, which had the life of `lives` at index `place`, or no life if `place` is
+/// `None`. The `count` zones before it had the life at index `last`; if `place` differs, they are
+/// appended to `befores`, `last` becomes `place` and `count` 1. `Oom` also if `count` overflows.
 fn count_zone(
     befores: &mut Vec<Before>,
     lives: &[Life],
@@ -176,13 +182,15 @@ fn count_zone(
         *count = more;
         return Ok(());
     }
-    put_before(befores, lives, last, *count)?;
+    add_before(befores, lives, last, *count)?;
     *last = *place;
     *count = 1;
     Ok(())
 }
 
-/// Sets the life at an index for each of the zones, and returns the lives that it replaces.
+/// Sets the life of `lives` at index `place`, which must be in the list, for each of the zones in
+/// `seats`. Returns the lives that they had, `None` for none, each with the count of successive
+/// zones that had it.
 fn seat_each(
     alloc: Global,
     lives: &[Life],
@@ -208,12 +216,14 @@ fn seat_each(
         seats.set(*zone, place, &mut before)?;
         count_zone(&mut befores, lives, &mut last, &mut count, &before)?;
     }
-    put_before(&mut befores, lives, &last, count)?;
+    add_before(&mut befores, lives, &last, count)?;
     Ok(befores)
 }
 
-/// Sets a life for each of the zones, and returns the lives that it replaces.
-fn put_lives(
+/// Sets a life for each of the zones, and returns the lives that they had, `None` for none, each
+/// with the count of successive zones that had it. `near` is a guess of the life's index in
+/// `lives`, and becomes its index if there is a zone.
+fn add_lives(
     alloc: Global,
     lives: &mut Vec<Life>,
     seats: &mut Seats,
@@ -238,8 +248,9 @@ fn put_lives(
     seat_each(alloc, lives, seats, place, zones)
 }
 
-/// Sets the life of a row, and returns its index.
-fn put_life(lives: &mut Vec<Life>, seats: &mut Seats, near: u32, row: &Row) -> Result<u32, Oom>
+/// Sets the life of a row for the row's zone, and returns the life's index in `lives`. `near` is a
+/// guess of that index.
+fn add_life(lives: &mut Vec<Life>, seats: &mut Seats, near: u32, row: &Row) -> Result<u32, Oom>
     requires { AreShared lives.old.items seats.old }
     ensures set { OnOk result (lives_told lives.new.items seats.new ≡ insert_entry by_place
         (lives_told lives.old.items seats.old) row.now.zone (life_of row.now)) }
@@ -251,7 +262,7 @@ fn put_life(lives: &mut Vec<Life>, seats: &mut Seats, near: u32, row: &Row) -> R
     Ok(place)
 }
 
-/// Returns how many of the zones had no life.
+/// Returns how many of the zones that `befores` counts had no life.
 fn new_zones(befores: &[Before]) -> usize {
     let mut count: usize = 0;
     for before in befores {
@@ -301,7 +312,9 @@ impl LifeMap {
         }
     }
 
-    /// Returns the life of a zone. `near` is a guess of its index, and becomes the index after it.
+    /// Returns the life of a zone, or `None` if there is none. `near` is a guess of the zone's
+    /// index among the zones in order, and may become the index after it; a wrong guess only costs
+    /// time.
     pub fn get(&self, near: &mut usize, zone: &Zone) -> Option<&Life>
         ensures { option_map (λ life. life.now) result
             ≡ lookup (is_at (by_place zone.now)) self.now }
@@ -312,19 +325,23 @@ impl LifeMap {
         }
     }
 
-    /// Whether a zone has a life.
+    /// Whether there is a zone with a life in the map.
     pub fn has_any_zone(&self) -> bool
         ensures { result ≡ is_some (slice_get self.now 0) }
     {
         self.seats.first().is_some()
     }
 
-    /// Returns the number of zones, as a hint that no contract promises.
+    /// Returns the number of zones, which is a hint alone: no contract promises that it is right.
     pub fn count(&self) -> usize {
         self.zones
     }
 
-    /// Returns the rows of an event with these lives, by zone.
+    /// Returns rows of `event` with the lives and zones of this map, by zone.
+    ///
+    /// # Errors
+    ///
+    /// Out of memory.
     pub fn rows(&self, alloc: Global, event: &Event) -> Result<Vec<Row>, Oom>
         ensures rows { IfOk result (λ rows. rows.items ≡ values_of (rows_with event.now self.now)) }
         ensures order { IsStrictlySortedBy by_place (keys_of self.now) }
@@ -346,9 +363,13 @@ impl LifeMap {
         self.zones = 0;
     }
 
-    /// Sets a life for each of the zones, and returns the lives that it replaces. On `Oom` the map
-    /// is empty.
-    pub fn put_each(
+    /// Sets a life for each of the zones, and returns the lives that they had, `None` for none,
+    /// each with the count of successive zones that had it. On `Oom` the map is empty.
+    ///
+    /// # Errors
+    ///
+    /// Out of memory.
+    pub fn add_each(
         &mut self,
         alloc: Global,
         life: &Life,
@@ -359,7 +380,7 @@ impl LifeMap {
             IsTallied p (values_of self.old) (values_of self.new) befores.items
             (length zones.now) life.now) }
     {
-        match put_lives(
+        match add_lives(
             alloc,
             &mut self.lives,
             &mut self.seats,
@@ -379,12 +400,12 @@ impl LifeMap {
         }
     }
 
-    /// Sets the life of a row. On `Oom` the map is empty.
+    /// Sets the life of a row for the row's zone. On `Oom` the map is empty.
     fn put(&mut self, row: &Row) -> Result<(), Oom>
         ensures { OnOk result
             (self.new ≡ insert_entry by_place self.old row.now.zone (life_of row.now)) }
     {
-        match put_life(&mut self.lives, &mut self.seats, self.near, row) {
+        match add_life(&mut self.lives, &mut self.seats, self.near, row) {
             Ok(place) => {
                 self.near = place;
                 self.zones = self.zones.saturating_add(1);
@@ -398,8 +419,9 @@ impl LifeMap {
         }
     }
 
-    /// Sets the lives of rows, by zone, in a map without zones. On `Oom` the map is empty.
-    fn put_all(&mut self, rows: &[Row]) -> Result<(), Oom>
+    /// Sets the lives of rows for their zones, in a map without zones. The zones must ascend. On
+    /// `Oom` the map is empty.
+    fn add_all(&mut self, rows: &[Row]) -> Result<(), Oom>
         requires none { self.old ≡ [] }
         requires order { IsStrictlySortedBy by_place (keys_of (lives_of rows.now)) }
         ensures { OnOk result (self.new ≡ lives_of rows.now) }
@@ -410,22 +432,28 @@ impl LifeMap {
         Ok(())
     }
 
-    /// Returns the same map without unreferenced lives.
+    /// Returns a map with the same lives by zone, but without the lives in the list that no zone
+    /// has. `event` may be any; it does not change the result.
     fn compacted(&self, alloc: Global, event: &Event) -> Result<LifeMap, Oom>
         ensures { IfOk result (λ map. map ≡ self.now) }
     {
         let rows = self.rows(alloc, event)?;
         let mut compacted = LifeMap::new(alloc);
-        compacted.put_all(&rows)?;
+        compacted.add_all(&rows)?;
         Ok(compacted)
     }
 
-    /// Whether there are more lives than twice the zones and `SPARE`.
+    /// Whether the list of lives has more entries than twice the number of zones plus 16.
     fn is_loose(&self) -> bool {
         self.lives.len() > self.zones.saturating_mul(2).saturating_add(SPARE)
     }
 
-    /// Drops unreferenced lives once they outnumber the others. The event is any.
+    /// Removes the lives that no zone has, if the list of lives has more entries than twice the
+    /// number of zones plus 16. `event` may be any; it does not change the result.
+    ///
+    /// # Errors
+    ///
+    /// Out of memory.
     pub fn compact(&mut self, alloc: Global, event: &Event) -> Result<(), Oom>
         ensures { self.new ≡ self.old }
     {

@@ -7,7 +7,7 @@ ghost use Rattle.row_index.specs.Steps.{asks_alike, nothing_around, has_same_per
 use event_life::{Around, Life, opened_period};
 use hazard_types::{Action, Event, Line, Minute, Zone};
 
-/// Returns the line with another zone.
+/// Returns a copy of a line with `zone` as its zone.
 pub fn in_zone(line: &Line, zone: &Zone) -> Line
     ensures { result ≡ in_zone line.now zone.now }
 {
@@ -45,7 +45,8 @@ pub fn same_life(a: &Option<Life>, b: &Option<Life>) -> bool
     *a == *b
 }
 
-/// Returns the facts about other rows for a line that needs none but `higher`.
+/// Returns the facts about other rows for a line that needs none but `higher`: the others are
+/// false.
 pub fn nothing_around(higher: bool) -> Around
     ensures { result ≡ nothing_around higher }
 {
@@ -58,22 +59,23 @@ pub fn nothing_around(higher: bool) -> Around
     }
 }
 
-/// Whether the action opens a spell, so that the row before counts for nothing.
+/// Whether the action is NEW, EXA or EXB, which give the row a period of their own, whatever row
+/// was there before.
 pub fn opens(action: &Action) -> bool
     ensures { result ≡ opens action.now }
 {
     matches!(action, Action::New | Action::Exa | Action::Exb)
 }
 
-/// Whether two lines have one action and event and would open one period, so that the facts about
-/// other rows are the same for both.
+/// Whether two lines of a product issued at `t` have the same action and event and would open the
+/// same period, so that the facts about other rows are the same for both.
 pub fn asks_alike(t: Minute, a: &Line, b: &Line) -> bool
     ensures { result ≡ asks_alike t a.now b.now }
 {
     a.action == b.action && a.event == b.event && opened_period(a, t) == opened_period(b, t)
 }
 
-/// Whether neither life is ended and both have one period.
+/// Whether both lives have the same period and neither is ended. False if `before` is `None`.
 pub fn has_same_period(before: &Option<Life>, life: &Life) -> bool
     ensures { result ≡ has_same_period before.now life.now }
 {

@@ -47,8 +47,12 @@ fn add_event(events: &mut Vec<Event>, event: &Event) -> Result<(), Oom>
     Ok(())
 }
 
-/// Adds an event to those of its hazard and number, unless it is among them.
-pub fn put_event(alloc: Global, events: &mut Events, event: &Event) -> Result<(), Oom>
+/// Adds an event to the list of its hazard and number in `events`, unless it is in that list.
+///
+/// # Errors
+///
+/// Out of memory.
+pub fn add_numbered_event(alloc: Global, events: &mut Events, event: &Event) -> Result<(), Oom>
     ensures { OnOk result (lists_of events.new.entries
         ≡ insert_entry by_number (lists_of events.old.entries) (number_of event.now)
         (with_event event.now
@@ -58,8 +62,14 @@ pub fn put_event(alloc: Global, events: &mut Events, event: &Event) -> Result<()
     add_event(known, event)
 }
 
-/// Adds an event to those of its hazard and number, unless it had rows before.
-pub fn put_event_of(
+/// Adds an event to the list of its hazard and number in `events`, unless it is in that list. Does
+/// nothing if `had_rows` is true, which says that the event had rows before and so was added with
+/// the first of them.
+///
+/// # Errors
+///
+/// Out of memory.
+pub fn add_new_event(
     alloc: Global,
     events: &mut Events,
     had_rows: bool,
@@ -71,10 +81,11 @@ pub fn put_event_of(
     if had_rows {
         return Ok(());
     }
-    put_event(alloc, events, event)
+    add_numbered_event(alloc, events, event)
 }
 
-/// Returns the events of a hazard and number.
+/// Returns the events of a hazard and number, one for each year, in the order in which they were
+/// added, or an empty slice if there are none.
 pub fn events_at<'a>(events: &'a Events, number: &Number) -> &'a [Event]
     ensures { result.now ≡ list_at by_number (lists_of events.now.entries) number.now }
 {

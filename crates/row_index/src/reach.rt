@@ -28,7 +28,8 @@ pub struct Reach {
 /// later than those of the rows that are left.
 pub type Reaches = BTreeSet<Reach>;
 
-/// Returns the area of a zone: sixteen numbers of a state.
+/// Returns the area of a zone, as a number: zones have the same if they are of one state and their
+/// numbers divided by 16, rounded down, are equal.
 ///
 /// Source: docs/DECISIONS.md, "The archive's report".
 fn area_of(zone: &Zone) -> u32
@@ -39,7 +40,7 @@ fn area_of(zone: &Zone) -> u32
     letters * 64 + u32::from(zone.number()) / 16
 }
 
-/// Whether `area` is the last one, if there is one.
+/// Whether `last` is this area. False if it is `None`.
 fn is_area(last: &Option<u32>, area: u32) -> bool
     ensures { result ≡ is_area last.now area }
 {
@@ -49,8 +50,9 @@ fn is_area(last: &Option<u32>, area: u32) -> bool
     }
 }
 
-/// Adds the end of a life of `event` in the area of `zone`, unless that area is `last`. `last`
-/// becomes the area.
+/// Adds to `reaches` that `event` reaches to the end of `life` in the area of `zone`, unless that
+/// area is `last`, for which the same was added before. `last` becomes the area; `None` stands for
+/// no area yet.
 fn reach_zone(
     reaches: &mut Reaches,
     last: &mut Option<u32>,
@@ -75,15 +77,19 @@ fn reach_zone(
     Ok(())
 }
 
-/// Whether the life is ended or the event's hazard has no rank.
+/// Whether the life is ended or the event's hazard has no rank, so that no reach is added for it.
 fn is_idle(event: &Event, life: &Life) -> bool
     ensures { result ≡ (life.now.ended || is_none (rank_of event.now)) }
 {
     life.ended || rank_of(&event.hazard).is_none()
 }
 
-/// Adds the end of a life of `event` in the areas of the zones, unless the life is ended or the
-/// hazard has no rank.
+/// Adds to `reaches` that `event` reaches to the end of `life` in the areas of the zones. Adds
+/// nothing if the life is ended or the event's hazard has no rank.
+///
+/// # Errors
+///
+/// Out of memory.
 pub fn reach_each(
     reaches: &mut Reaches,
     event: &Event,
@@ -104,7 +110,8 @@ pub fn reach_each(
     Ok(())
 }
 
-/// Returns the entries of an area with an end at `t` or later, in order.
+/// Returns the entries of an area with an end at `t` or later, or until further notice, by end,
+/// then event.
 fn lasting(reaches: &Reaches, area: u32, t: Minute) -> Range<'_, Reach>
     ensures { result ≡ filter (lasts area t) reaches.now.keys }
 {
@@ -116,21 +123,22 @@ fn lasting(reaches: &Reaches, area: u32, t: Minute) -> Range<'_, Reach>
     reaches.range(from..Reach { area, end, spot })
 }
 
-/// Whether `own` ranks above one of `ranks`.
+/// Whether `own` is a greater rank than one of `ranks` of the same family.
 fn is_above_one(ranks: &[Rank], own: &Rank) -> bool
     ensures { result ≡ list_any (is_above own.now) ranks.now }
 {
     ranks.iter().any(|low| is_above(own, low))
 }
 
-/// Whether an event ranks above one of `ranks`.
+/// Whether an event's hazard has a greater rank than one of `ranks` of the same family.
 fn is_above_any(ranks: &[Rank], event: &Event) -> bool
     ensures { result ≡ is_above_any ranks.now event.now }
 {
     is_above_one(ranks, &rank_of(&event.hazard))
 }
 
-/// Adds the event of a key if it ranks above one of `ranks`.
+/// Adds to `events` the event at the position `spot`, if there is one there and its hazard has a
+/// greater rank than one of `ranks` of the same family.
 fn add_event(events: &mut BTreeSet<Event>, ranks: &[Rank], spot: &Spot) -> Result<(), Oom>
     ensures { OnOk result (events.new.keys ≡ with_spot ranks.now spot.now events.old.keys) }
 {
@@ -142,7 +150,9 @@ fn add_event(events: &mut BTreeSet<Event>, ranks: &[Rank], spot: &Spot) -> Resul
     Ok(())
 }
 
-/// Adds the events that rank above one of `ranks` and whose rows may reach to `t` in an area.
+/// Adds to `events` those that have an entry in `reaches` for this area with an end at `t` or
+/// later, or until further notice, and whose hazard has a greater rank than one of `ranks` of the
+/// same family.
 fn add_events(
     events: &mut BTreeSet<Event>,
     reaches: &Reaches,
@@ -159,7 +169,10 @@ fn add_events(
     Ok(())
 }
 
-/// `add_events` for an area, unless it is the one whose events were added last.
+/// Adds to `events` those that have an entry in `reaches` for `area` with an end at `t` or later,
+/// or until further notice, and whose hazard has a greater rank than one of `ranks` of the same
+/// family. Adds nothing if `area` is `last`, the area whose events were added just before; `None`
+/// stands for no area yet.
 fn add_other(
     events: &mut BTreeSet<Event>,
     last: &Option<u32>,
@@ -178,8 +191,14 @@ fn add_other(
     add_events(events, reaches, area, t, ranks)
 }
 
-/// Returns the events that rank above one of `ranks` and whose rows may reach to `t` in the areas
-/// of the zones.
+/// Returns the events that have an entry in `reaches`, for the area of one of the zones, with an
+/// end at `t` or later, or until further notice, and whose hazard has a greater rank than one of
+/// `ranks` of the same family. The rows that such an event has now may all end earlier, since
+/// entries are never removed.
+///
+/// # Errors
+///
+/// Out of memory.
 pub fn events_above(
     alloc: Global,
     reaches: &Reaches,

@@ -34,6 +34,7 @@ pub type Seated = BTreeMap<Seat, Row>;
 /// The zones and events of lines.
 pub type Seats = BTreeSet<Seat>;
 
+/// Returns the key of the row of an event in a zone.
 fn seat_at(event: &Event, zone: &Zone) -> Seat
     ensures { result ≡ seat_at event.now zone.now }
 {
@@ -50,7 +51,11 @@ pub fn has_seat(seats: &Seats, event: &Event, zone: &Zone) -> bool
     seats.contains(&seat_at(event, zone))
 }
 
-/// Adds the key of a line if `counts`.
+/// Adds the key (zone and event) of a line if `counts` is true.
+///
+/// # Errors
+///
+/// Out of memory.
 pub fn add_seat(seats: &mut Seats, counts: bool, line: &Line) -> Result<(), Oom>
     ensures { OnOk result (seats.new.keys ≡ seats_with counts line.now seats.old.keys) }
 {
@@ -65,7 +70,7 @@ pub fn add_seat(seats: &mut Seats, counts: bool, line: &Line) -> Result<(), Oom>
     Ok(())
 }
 
-/// Returns the row of an event in a zone.
+/// Returns the row of an event in a zone, or `None` if there is none.
 pub fn row_in(seated: &Seated, event: &Event, zone: &Zone) -> Option<Row>
     requires { AreSeated seated.now.entries }
     ensures { result ≡ row_at (values_of seated.now.entries) event.now zone.now }
@@ -76,7 +81,11 @@ pub fn row_in(seated: &Seated, event: &Event, zone: &Zone) -> Option<Row>
     }
 }
 
-/// Sets the value at a key. `before` becomes the value that was there, if any.
+/// Sets the value at a key. `before` becomes the value that was there, or `None` if there was none.
+///
+/// # Errors
+///
+/// Out of memory.
 pub fn set<K: Ord + Drop, V: Copy>(
     map: &mut BTreeMap<K, V>,
     key: K,
@@ -90,9 +99,13 @@ pub fn set<K: Ord + Drop, V: Copy>(
     Ok(())
 }
 
-/// Puts a row, in place of the one with its zone and event if there is one. `before` becomes that
-/// one.
-pub fn put_seated(seated: &mut Seated, row: &Row, before: &mut Option<Row>) -> Result<(), Oom>
+/// Adds a row to the map, in place of the one with its zone and event if there is one. `before`
+/// becomes that one, or `None`.
+///
+/// # Errors
+///
+/// Out of memory.
+pub fn add_seated(seated: &mut Seated, row: &Row, before: &mut Option<Row>) -> Result<(), Oom>
     requires { AreSeated seated.old.entries }
     ensures before { OnOk result
         (before.new ≡ row_at (values_of seated.old.entries) row.now.event row.now.zone) }
@@ -108,8 +121,13 @@ pub fn put_seated(seated: &mut Seated, row: &Row, before: &mut Option<Row>) -> R
     set(seated, seat, row, before)
 }
 
-/// Puts a row if `counts`.
-pub fn count_row(seated: &mut Seated, counts: bool, row: &Row) -> Result<(), Oom>
+/// Adds a row to the map if `counts` is true, in place of the one with its zone and event if there
+/// is one.
+///
+/// # Errors
+///
+/// Out of memory.
+pub fn add_seated_if(seated: &mut Seated, counts: bool, row: &Row) -> Result<(), Oom>
     requires { AreSeated seated.old.entries }
     ensures rows { OnOk result (values_of seated.new.entries ≡ (if counts
         then put row.now (values_of seated.old.entries)
@@ -118,7 +136,7 @@ pub fn count_row(seated: &mut Seated, counts: bool, row: &Row) -> Result<(), Oom
 {
     if counts {
         let mut before = None;
-        put_seated(seated, row, &mut before)?;
+        add_seated(seated, row, &mut before)?;
     }
     Ok(())
 }
@@ -140,6 +158,10 @@ pub fn seated_in<'a>(seated: &'a Seated, zone: &Zone) -> Range<'a, Seat, Row>
 }
 
 /// Returns all rows, by zone, then event.
+///
+/// # Errors
+///
+/// Out of memory.
 pub fn all_rows(alloc: Global, seated: &Seated) -> Result<Vec<Row>, AllocError>
     ensures { IfOk result (λ rows. rows.items ≡ values_of seated.now.entries) }
 {

@@ -45,8 +45,9 @@ impl SharedRows {
         }
     }
 
-    /// Returns the life of the row of an event in a zone. `near` is a guess of its index, and
-    /// becomes the index after it.
+    /// Returns the life of the row of an event in a zone, or `None` if there is none. `near` is a
+    /// guess of the zone's index among the zones in order, and may become the index after it; a
+    /// wrong guess only costs time.
     pub fn life_at(&self, near: &mut usize, event: &Event, zone: &Zone) -> Option<&Life>
         ensures { option_map (λ life. life.now) result
             ≡ option_map life_of (row_at (values_of self.now) event.now zone.now) }
@@ -73,12 +74,16 @@ impl SharedRows {
         }
     }
 
-    /// Returns the number of rows, as a hint that no contract promises.
+    /// Returns the number of rows, which is a hint alone: no contract promises that it is right.
     pub fn count(&self) -> usize {
         self.lives.count()
     }
 
     /// Returns the rows by zone.
+    ///
+    /// # Errors
+    ///
+    /// Out of memory.
     pub fn values(&self, alloc: Global) -> Result<Vec<Row>, Oom>
         ensures { IfOk result (λ values. values.items ≡ values_of self.now) }
     {
@@ -88,8 +93,13 @@ impl SharedRows {
         }
     }
 
-    /// Puts rows of the event with `life` in `zones`, and returns the lives that they replace. On
-    /// `Oom` rows may be lost.
+    /// Sets a row of `event` with `life` in each of the zones, and returns the lives that these
+    /// zones had, `None` for no row, each with the count of zones in succession that had it. All
+    /// rows in the map must be of `event`. On `Oom` rows may be lost.
+    ///
+    /// # Errors
+    ///
+    /// Out of memory.
     pub fn set(
         &mut self,
         alloc: Global,
@@ -105,7 +115,7 @@ impl SharedRows {
     {
         self.event = Some(*event);
         self.lives.compact(alloc, event)?;
-        self.lives.put_each(alloc, life, zones)
+        self.lives.add_each(alloc, life, zones)
     }
 
     /// Drops all rows.

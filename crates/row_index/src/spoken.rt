@@ -1,7 +1,7 @@
 //! A set of the keys of a product's lines, which mostly come in ascending order.
 ghost use Rattle.std.specs.Prelude.{◌≡◌, true, [], IfOk, OnOk};
 ghost use Rattle.row_index.specs.Seating.{key_of_line, has_seat};
-ghost use Rattle.row_index.specs.Risen.{is_behind, last_said, rising_with, seats_of, IsFree, Joins, Says};
+ghost use Rattle.row_index.specs.Risen.{is_after_last_key, last_said, rising_with, seats_of, IsFree, Joins, Says};
 
 use crate::keys::add_key;
 use crate::parts::EventKey;
@@ -19,6 +19,7 @@ pub struct SeenKeys {
     pub others: Seats,
 }
 
+/// Returns the key of a line: its zone and event.
 fn key_of_line(line: &Line) -> Seat
     ensures { result ≡ key_of_line line.now }
 {
@@ -29,9 +30,9 @@ fn key_of_line(line: &Line) -> Seat
     }
 }
 
-/// Whether `seat` comes after `last`, or there is no last one.
-fn is_behind(last: &Option<Seat>, seat: &Seat) -> bool
-    ensures { result ≡ is_behind last.now seat.now }
+/// Whether `seat` comes after `last` by zone, then event, or `last` is `None`.
+fn is_after_last_key(last: &Option<Seat>, seat: &Seat) -> bool
+    ensures { result ≡ is_after_last_key last.now seat.now }
 {
     match last {
         Some(last) => last.cmp(seat).is_lt(),
@@ -39,7 +40,7 @@ fn is_behind(last: &Option<Seat>, seat: &Seat) -> bool
     }
 }
 
-/// Moves the ascending keys to the set.
+/// Moves the keys of `rising` to the set `others`, and leaves `rising` empty.
 fn move_to_set(rising: &mut Vec<Seat>, others: &mut Seats) -> Result<(), Oom>
     ensures none { OnOk result (rising.new.items ≡ []) }
     ensures all { OnOk result (Joins rising.old.items others.old.keys others.new.keys) }
@@ -49,7 +50,7 @@ fn move_to_set(rising: &mut Vec<Seat>, others: &mut Seats) -> Result<(), Oom>
     Ok(())
 }
 
-/// Adds keys to the set.
+/// Adds the keys `seats` to the set `others`; some may be there already.
 fn join(seats: &[Seat], others: &mut Seats) -> Result<(), Oom>
     ensures { OnOk result (Joins seats.now others.old.keys others.new.keys) }
 {
@@ -59,7 +60,8 @@ fn join(seats: &[Seat], others: &mut Seats) -> Result<(), Oom>
     Ok(())
 }
 
-/// Appends the key of a line to the ascending ones if `counts`.
+/// Appends the key (zone and event) of a line to `rising` and makes it `last`, if `counts` is true;
+/// otherwise changes nothing.
 fn push_ascending(
     last: &mut Option<Seat>,
     rising: &mut Vec<Seat>,
@@ -77,6 +79,7 @@ fn push_ascending(
 }
 
 impl SeenKeys {
+    /// Returns an empty set of keys.
     pub fn new(alloc: Global) -> Self
         ensures none { seats_of result.rising.items result.others.keys ≡ [] }
         ensures free { IsFree result.last result.rising.items }
@@ -88,10 +91,11 @@ impl SeenKeys {
         }
     }
 
-    /// `mark_seen` for a key that is after the last of the ascending ones.
+    /// Returns whether the key (zone and event) of a line is there already, and appends it to the
+    /// ascending keys if `counts` is true. The key must come after `last` by zone, then event.
     fn mark_seen_ascending(&mut self, counts: bool, line: &Line) -> Result<bool, Oom>
         requires free { IsFree self.old.last self.old.rising.items }
-        requires behind { is_behind self.old.last (key_of_line line.now) ≡ true }
+        requires behind { is_after_last_key self.old.last (key_of_line line.now) ≡ true }
         ensures second { IfOk result (λ second. second
             ≡ has_seat (seats_of self.old.rising.items self.old.others.keys) (key_of_line line.now)) }
         ensures said { OnOk result (Says (seats_of self.old.rising.items self.old.others.keys)
@@ -103,7 +107,8 @@ impl SeenKeys {
         Ok(second)
     }
 
-    /// `mark_seen` for any other key: the ascending ones are moved to the set first.
+    /// Returns whether the key (zone and event) of a line is there already, and adds it to the set
+    /// if `counts` is true. The ascending keys are moved to the set first.
     fn mark_seen_in_set(&mut self, counts: bool, line: &Line) -> Result<bool, Oom>
         ensures second { IfOk result (λ second. second
             ≡ has_seat (seats_of self.old.rising.items self.old.others.keys) (key_of_line line.now)) }
@@ -117,7 +122,12 @@ impl SeenKeys {
         Ok(second)
     }
 
-    /// Returns whether the key of a line is there, and adds it if `counts`.
+    /// Returns whether the key (zone and event) of a line is there already, and adds it if `counts`
+    /// is true.
+    ///
+    /// # Errors
+    ///
+    /// Out of memory.
     pub fn mark_seen(&mut self, counts: bool, line: &Line) -> Result<bool, Oom>
         requires { IsFree self.old.last self.old.rising.items }
         ensures second { IfOk result (λ second. second
@@ -126,7 +136,7 @@ impl SeenKeys {
             (seats_of self.new.rising.items self.new.others.keys) counts line.now) }
         ensures free { OnOk result (IsFree self.new.last self.new.rising.items) }
     {
-        if is_behind(&self.last, &key_of_line(line)) {
+        if is_after_last_key(&self.last, &key_of_line(line)) {
             self.mark_seen_ascending(counts, line)
         } else {
             self.mark_seen_in_set(counts, line)

@@ -29,6 +29,7 @@ pub struct Before {
     pub zones: usize,
 }
 
+/// Returns the period of a life, as a key that is ordered by end, then begin.
 fn standing_of(life: &Life) -> Standing
     ensures { result ≡ life_standing life.now }
 {
@@ -39,7 +40,7 @@ fn standing_of(life: &Life) -> Standing
     }
 }
 
-/// Returns the minute `count` minutes before `t`, or the first of all.
+/// Returns the minute `count` minutes before `t`, or minute 0 if that would be earlier.
 pub fn minutes_before(t: Minute, count: u32) -> Minute
     ensures { result ≡ t - count }
 {
@@ -49,14 +50,15 @@ pub fn minutes_before(t: Minute, count: u32) -> Minute
     }
 }
 
-/// Whether an unended row has the period `from` or one after it.
+/// Whether an unended row has the period `from`, or one that comes after it by end, then begin.
 fn any_from(standings: &Standings, from: Standing) -> bool
     ensures { result ≡ list_any (lies_from from) (keys_of standings.now.entries) }
 {
     standings.range(from..).next().is_some()
 }
 
-/// Whether an unended row has an end that is at most half an hour before `t`, or later.
+/// Whether an unended row has an end that is at most half an hour before `t`, or later, or until
+/// further notice.
 pub fn is_open_among(standings: &Standings, t: Minute) -> bool
     ensures { result ≡ list_any (lies_from (open_from t)) (keys_of standings.now.entries) }
 {
@@ -66,7 +68,8 @@ pub fn is_open_among(standings: &Standings, t: Minute) -> bool
     any_from(standings, from)
 }
 
-/// Whether an unended row has the end of `period`, and a begin from `first` to `last`.
+/// Whether an unended row has the end of `period`, and a begin from `first` to `last`, both
+/// included. `first` must not be after `last`, and the begin of `period` is not read.
 fn any_with(standings: &Standings, period: &Period, first: Minute, last: Minute) -> bool
     requires { first ≤ last }
     ensures { result
@@ -84,7 +87,8 @@ fn any_with(standings: &Standings, period: &Period, first: Minute, last: Minute)
     any_between(standings, from, to)
 }
 
-/// Whether a row that is live at `t` has this period. Begins at `t` or before count as equal.
+/// Whether a row that is live at `t` (unended, with an end after `t` or until further notice) has
+/// this period. Two begins at `t` or before count as equal.
 pub fn has_same_among(standings: &Standings, t: Minute, period: &Period) -> bool
     ensures { result ≡ (ends_after period.now.end t
         && list_any (lies (same_from t period.now) (same_to t period.now))
@@ -100,7 +104,7 @@ pub fn has_same_among(standings: &Standings, t: Minute, period: &Period) -> bool
     }
 }
 
-/// Returns how many unended rows have a period.
+/// Returns how many unended rows have a period; 0 if none has.
 fn count_at(standings: &Standings, period: &Standing) -> usize
     ensures { result ≡ count_at standings.now.entries period.now }
 {
@@ -110,7 +114,7 @@ fn count_at(standings: &Standings, period: &Standing) -> usize
     }
 }
 
-/// Sets the count at a key, which is removed at 0.
+/// Sets the count at a key. A count of 0 removes the key.
 fn set_count<K: Ord + Drop>(
     counts: &mut BTreeMap<K, usize>,
     key: K,
@@ -126,7 +130,8 @@ fn set_count<K: Ord + Drop>(
     Ok(())
 }
 
-/// Subtracts rows from the count of their period, if they had a life that was not ended.
+/// Subtracts `before.zones` rows from the count of the period of `before.life`, down to 0 at least.
+/// Does nothing if that life is `None` or ended.
 fn uncount_rows(standings: &mut Standings, before: &Before) -> Result<(), Oom>
     ensures { OnOk result (standings.new.entries ≡ some_less before.now standings.old.entries) }
 {
@@ -145,7 +150,8 @@ fn uncount_rows(standings: &mut Standings, before: &Before) -> Result<(), Oom>
     set_count(standings, period, count)
 }
 
-/// Subtracts rows with several lives from the counts of their periods.
+/// Subtracts, for each of `befores`, its number of zones from the count of its life's period, down
+/// to 0 at least. One whose life is `None` or ended changes nothing.
 fn uncount_all(standings: &mut Standings, befores: &[Before]) -> Result<(), Oom>
     ensures { OnOk result (standings.new.entries ≡ all_less befores.now standings.old.entries) }
 {
@@ -155,8 +161,9 @@ fn uncount_all(standings: &mut Standings, befores: &[Before]) -> Result<(), Oom>
     Ok(())
 }
 
-/// Adds `zones` rows to the count of the period of `life`, unless it is ended.
-fn stand_more(standings: &mut Standings, zones: usize, life: &Life) -> Result<(), Oom>
+/// Adds `zones` rows to the count of the period of `life`, unless the life is ended. `Oom` also if
+/// the count overflows.
+fn count_more_rows(standings: &mut Standings, zones: usize, life: &Life) -> Result<(), Oom>
     ensures { OnOk result (standings.new.entries ≡ some_more zones life.now standings.old.entries) }
 {
     if life.ended {
@@ -173,7 +180,8 @@ fn stand_more(standings: &mut Standings, zones: usize, life: &Life) -> Result<()
     set_count(standings, period, count)
 }
 
-/// Whether all `zones` had one life, neither that nor `life` is ended, and both have one period.
+/// Whether `befores` is one entry, for all of the `zones` zones, whose life has the period of
+/// `life`, and neither of these lives is ended. Then no count changes if the zones get `life`.
 fn all_stay(befores: &[Before], zones: usize, life: &Life) -> bool
     ensures { result ≡ all_stay befores.now zones life.now }
 {
@@ -183,8 +191,13 @@ fn all_stay(befores: &[Before], zones: usize, life: &Life) -> bool
     }
 }
 
-/// Replaces the rows of zones in the counts: those with the lives of `befores` by `zones` rows with
-/// `life`. An ended row is not counted.
+/// Corrects the counts of unended rows by period for zones that had the lives of `befores` and now
+/// have `life`. `zones` is how many zones these are. An ended row, or a life of `None`, is not
+/// counted.
+///
+/// # Errors
+///
+/// Out of memory.
 pub fn replace_counted(
     standings: &mut Standings,
     befores: &[Before],
@@ -197,6 +210,6 @@ pub fn replace_counted(
     if all_stay(befores, zones, life) {
         return Ok(());
     }
-    stand_more(standings, zones, life)?;
+    count_more_rows(standings, zones, life)?;
     uncount_all(standings, befores)
 }

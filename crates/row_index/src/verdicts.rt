@@ -38,7 +38,7 @@ impl Verdict {
     }
 }
 
-/// Whether one of the verdicts is a breach.
+/// Whether one of the verdicts has a breach, so that its line is not lawful.
 fn any_breach(verdicts: &[Verdict]) -> bool
     ensures { result ≡ list_any is_breach verdicts.now }
 {
@@ -54,8 +54,8 @@ pub struct Run {
 }
 
 impl Run {
-    /// Returns a run of all the zones of a part without a verdict, with capacity for `room`
-    /// verdicts.
+    /// Returns a run of `zones`, all those of a part, without a verdict and with capacity for
+    /// `room` verdicts.
     ///
     /// # Errors
     ///
@@ -103,8 +103,9 @@ impl Run {
         }
     }
 
-    /// Adds the lines of the run in one zone to `out`.
-    fn put_zone(&self, zone: &Zone, out: &mut Vec<(Line, Option<Breach>)>) -> Result<(), Oom>
+    /// Appends the lines of the run to `out`, in order and with `zone` as their zone, each with its
+    /// first breach, or `None` if it is lawful or ROU.
+    fn add_zone(&self, zone: &Zone, out: &mut Vec<(Line, Option<Breach>)>) -> Result<(), Oom>
         ensures { OnOk result
             (out.new.items ≡ out.old.items ++ expand_at self.now.verdicts zone.now) }
     {
@@ -114,23 +115,25 @@ impl Run {
         Ok(())
     }
 
-    /// Adds the lines of the run to `out`, zone by zone, in the order of the text.
+    /// Appends the lines of the run to `out`, all of them for its first zone, then for the next,
+    /// each with its first breach, or `None` if it is lawful or ROU. The lines have the zone for
+    /// which they are appended.
     ///
     /// # Errors
     ///
     /// Out of memory.
-    pub fn put_spelled(&self, out: &mut Vec<(Line, Option<Breach>)>) -> Result<(), Oom>
+    pub fn add_lines_by_zone(&self, out: &mut Vec<(Line, Option<Breach>)>) -> Result<(), Oom>
         ensures { OnOk result (out.new.items ≡ out.old.items ++ expand_run self.now) }
     {
         for zone in self.zones.as_slice() {
-            self.put_zone(zone, out)?;
+            self.add_zone(zone, out)?;
         }
         Ok(())
     }
 }
 
-/// Returns the lines of runs zone by zone, in the order of the text, each with its first breach, or
-/// `None` if it is lawful or routine.
+/// Returns the lines of runs, run by run and in each zone by zone, with that zone, each with its
+/// first breach, or `None` if it is lawful or ROU.
 ///
 /// # Errors
 ///
@@ -140,12 +143,12 @@ pub fn expand(alloc: Global, runs: &[Run]) -> Result<List<(Line, Option<Breach>)
 {
     let mut out = Vec::new(alloc);
     for run in runs {
-        run.put_spelled(&mut out)?;
+        run.add_lines_by_zone(&mut out)?;
     }
     Ok(List::from_vec(out))
 }
 
-/// Adds the lines of a part in one zone to `out`.
+/// Appends the lines of a part to `out`, with `zone` as their zone.
 fn push_lines_of_part(part: &Part<'_>, zone: &Zone, out: &mut Vec<Line>) -> Result<(), Oom>
     ensures { OnOk result (out.new.items ≡ out.old.items ++ said_at part.now.lines zone.now) }
 {
@@ -155,8 +158,8 @@ fn push_lines_of_part(part: &Part<'_>, zone: &Zone, out: &mut Vec<Line>) -> Resu
     Ok(())
 }
 
-/// Adds the lines of a part in each of its zones to `out`, zone by zone.
-fn put_part(part: &Part<'_>, out: &mut Vec<Line>) -> Result<(), Oom>
+/// Appends the lines of a part to `out` for each of its zones, zone by zone.
+fn add_part(part: &Part<'_>, out: &mut Vec<Line>) -> Result<(), Oom>
     ensures { OnOk result (out.new.items ≡ out.old.items ++ said_in part.now) }
 {
     for zone in part.zones {
@@ -165,18 +168,25 @@ fn put_part(part: &Part<'_>, out: &mut Vec<Line>) -> Result<(), Oom>
     Ok(())
 }
 
-/// Returns the lines of parts in each of their zones, in the order of the text.
+/// Returns the lines of parts in each of their zones: part by part, in each zone by zone, and in
+/// each zone the part's lines in order.
+///
+/// # Errors
+///
+/// Out of memory.
 pub fn lines_in(alloc: Global, parts: &[Part<'_>]) -> Result<List<Line>, Oom>
     ensures { IfOk result (λ lines. lines ≡ lines_in parts.now) }
 {
     let mut out = Vec::new(alloc);
     for part in parts {
-        put_part(part, &mut out)?;
+        add_part(part, &mut out)?;
     }
     Ok(List::from_vec(out))
 }
 
-/// Returns the life that a lawful line leaves, given the one that it found.
+/// Returns the life that the line of `verdict` leaves where it found the life `verdict.found`, or
+/// no row if that is `None`. The line is taken as lawful, whatever its breach. `t` is the product's
+/// issue minute.
 pub fn life_after_verdict(verdict: &Verdict, t: Minute) -> Life
     ensures { result ≡ left_by t verdict.now }
 {

@@ -160,14 +160,14 @@ InOrder cs = (ks : List Head) × (map class_head cs ≡ map Some ks) × IsStrict
 abbrev all_put : Classes → Heads → Classes
 all_put cs es = fold (λ (so_far : Classes) (e : Head × List SegLine). put same_lines pushed so_far e.1 e.0.zone) cs es
 
-in_order : (cs : Classes) (hs : List Head) (es : Heads) → AllByRecursion (IsFull same_lines seg_lines_decide pushed) cs → map class_head cs ≡ map Some hs → AreHeaded es → IsStrictlySortedBy by_head (hs ++ map (λ e. e.0) es) → InOrder (all_put cs es)
-in_order cs hs [] full heads headed sorted = (hs, heads, subst (IsStrictlySortedBy by_head) (append-nil hs) sorted)
-in_order cs hs (e ∷ es) full heads headed sorted =
+lines_without_zones : (cs : Classes) (hs : List Head) (es : Heads) → AllByRecursion (IsFull same_lines seg_lines_decide pushed) cs → map class_head cs ≡ map Some hs → AreHeaded es → IsStrictlySortedBy by_head (hs ++ map (λ e. e.0) es) → InOrder (all_put cs es)
+lines_without_zones cs hs [] full heads headed sorted = (hs, heads, subst (IsStrictlySortedBy by_head) (append-nil hs) sorted)
+lines_without_zones cs hs (e ∷ es) full heads headed sorted =
     let more = full-put same_lines seg_lines_decide pushed cs e.1 e.0.zone pushed_some full in
     let later : AreHeaded es = λ h ms has. headed h ms (inr has) in
     elim (heading cs e.0 e.1 (headed e.0 e.1 (inl refl)) full) as (λ _. InOrder (all_put cs (e ∷ es))) [
-      | inl q ↦ in_order (put same_lines pushed cs e.1 e.0.zone) hs es more (q ∙ heads) later (rises_but hs e.0 (map (λ d. d.0) es) sorted)
-      | inr q ↦ in_order (put same_lines pushed cs e.1 e.0.zone) (hs ++ e.0 ∷ []) es more (q ∙ ap (λ (os : List (Option Head)). os ++ Some e.0 ∷ []) heads ∙ some_pushed hs e.0) later
+      | inl q ↦ lines_without_zones (put same_lines pushed cs e.1 e.0.zone) hs es more (q ∙ heads) later (rises_but hs e.0 (map (λ d. d.0) es) sorted)
+      | inr q ↦ lines_without_zones (put same_lines pushed cs e.1 e.0.zone) (hs ++ e.0 ∷ []) es more (q ∙ ap (λ (os : List (Option Head)). os ++ Some e.0 ∷ []) heads ∙ some_pushed hs e.0) later
           (subst (IsStrictlySortedBy by_head) (sym (append_assoc hs (e.0 ∷ []) (map (λ d. d.0) es))) sorted)
     ]
 
@@ -259,7 +259,7 @@ module _ (lines : List Line) where
   -- the steps make the segments of the lines
   pub segments_made : AreSegments lines (segments_of cs)
   segments_made =
-      let order = in_order [] [] hs tt refl headed (heads_rise lines) in
+      let order = lines_without_zones [] [] hs tt refl headed (heads_rise lines) in
       record {
         zones = λ s has.
             let r = mapped_from segment cs s has in

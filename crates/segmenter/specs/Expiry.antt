@@ -8,14 +8,14 @@ use Rattle.hazard_types.specs.declared.line.SegLine.{SegLine}
 use Rattle.hazard_types.specs.declared.period.End.{End}
 use Rattle.hazard_types.specs.declared.period.End.TheVariants.{At, Ufn}
 
--- the lesser of a minute and a closed end
-abbrev pub lesser : ℕ → End → ℕ
-lesser m (At end) = min m end
-lesser m Ufn = m
+-- the earlier_end of a minute and a closed end
+abbrev pub earlier_end : ℕ → End → ℕ
+earlier_end m (At end) = min m end
+earlier_end m Ufn = m
 
 -- the end of a row that the line leaves live counts
-abbrev pub lesser_left : ℕ → SegLine → ℕ
-lesser_left m line = if leaves_live line.action then lesser m line.end else m
+abbrev pub earlier_live_end : ℕ → SegLine → ℕ
+earlier_live_end m line = if leaves_live line.action then earlier_end m line.end else m
 
 -- ROU
 abbrev pub is_routine : Action → Bool
@@ -23,12 +23,12 @@ is_routine Rou = true
 is_routine _ = false
 
 -- a row is left live, or the line is a routine one
-abbrev pub stands_long : SegLine → Bool
-stands_long line = leaves_live line.action || is_routine line.action
+abbrev pub has_long_expiry : SegLine → Bool
+has_long_expiry line = leaves_live line.action || is_routine line.action
 
 -- the least of eight hours on and the closed ends of the rows that are left live; one hour on, where none is left live and no line is a routine one
 abbrev pub expiry_of : ℕ → List SegLine → ℕ
-expiry_of t lines = if list_any stands_long lines then fold lesser_left (t + 480) lines else t + 60
+expiry_of t lines = if list_any has_long_expiry lines then fold earlier_live_end (t + 480) lines else t + 60
 
 abbrev pub IsAfter : ℕ → End → Type 0
 IsAfter t (At end) = t < end

@@ -11,5 +11,5 @@ are_of_one_group [] = true
 are_of_one_group (first ∷ rest) = list_all (λ (line : Line). same_group (group_of line) (group_of first)) (first ∷ rest)
 
 -- the lines without their zones, in order
-abbrev pub in_order : List Line → List SegLine
-in_order lines = fold (λ (ordered : List SegLine) (line : Line). placed (without_zone line) ordered) [] lines
+abbrev pub lines_without_zones : List Line → List SegLine
+lines_without_zones lines = fold (λ (ordered : List SegLine) (line : Line). placed (without_zone line) ordered) [] lines

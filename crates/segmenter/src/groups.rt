@@ -46,7 +46,8 @@ impl Model for Ordered {
 /// The lines of each group.
 pub type Groups = IndexMap<Group, Ordered>;
 
-/// Returns the event, if its phenomenon is FL, so that it has a group of its own.
+/// Returns the event if its phenomenon is FL, since its lines then have a group of their own;
+/// otherwise `None`.
 ///
 /// Source: docs/DECISIONS.md, "Segments" (flood hazards).
 fn flood_event(event: &Event) -> Option<Event>
@@ -59,7 +60,7 @@ fn flood_event(event: &Event) -> Option<Event>
     }
 }
 
-/// Returns the group of a line.
+/// Returns the key of a line's group: its zone, and its event if the phenomenon is FL.
 pub fn group_of(line: &Line) -> Group
     ensures { result ≡ group_of line.now }
 {
@@ -82,7 +83,7 @@ pub fn without_zone(line: &Line) -> SegLine
     }
 }
 
-/// Returns the rank of an action in the order of a segment's lines.
+/// Returns the rank of an action in the order of a segment's lines, from 0 for UPG to 9 for ROU.
 ///
 /// Source: docs/PRODUCTS.md, "Segments".
 fn action_rank(action: &Action) -> u8
@@ -102,7 +103,8 @@ fn action_rank(action: &Action) -> u8
     }
 }
 
-/// Compares two lines of a segment by action, then event.
+/// Returns how the line `a` compares with `b` in the order of a segment's lines: by action, from
+/// UPG to ROU, then by event.
 fn by_line(a: &SegLine, b: &SegLine) -> Ordering
     ensures { result ≡ by_line a.now b.now }
 {
@@ -111,9 +113,10 @@ fn by_line(a: &SegLine, b: &SegLine) -> Ordering
         .then(a.event.order(&b.event))
 }
 
-/// Returns the index of the first line that comes after this one, or the end. Lines mostly come in
+/// Returns the index of the first of `lines` that comes after `line` by action (from UPG to ROU),
+/// then event, or their count if there is none. `lines` must be in this order. Lines mostly come in
 /// order, so the last is compared first.
-fn place_of(lines: &[SegLine], line: &SegLine) -> usize
+fn insertion_index(lines: &[SegLine], line: &SegLine) -> usize
     requires { AreInOrder lines.now }
     ensures range { result ≤ length lines.now }
     ensures placed { insert lines.now result line.now ≡ placed line.now lines.now }
@@ -133,7 +136,7 @@ fn place_of(lines: &[SegLine], line: &SegLine) -> usize
 }
 
 impl Ordered {
-    /// Returns no lines, without capacity.
+    /// Returns an empty list of lines, which takes no memory.
     fn new(alloc: Global) -> Self
         ensures { result ≡ [] }
     {
@@ -142,7 +145,7 @@ impl Ordered {
         }
     }
 
-    /// Returns no lines, with a capacity of `n`.
+    /// Returns an empty list of lines with room for `n` of them.
     ///
     /// # Errors
     ///
@@ -155,7 +158,8 @@ impl Ordered {
         })
     }
 
-    /// Inserts a line before the first that comes after it.
+    /// Inserts a line before the first one that comes after it by action (from UPG to ROU), then
+    /// event, or at the end if there is none.
     ///
     /// # Errors
     ///
@@ -163,12 +167,12 @@ impl Ordered {
     pub fn place(&mut self, line: &SegLine) -> Result<(), Oom>
         ensures { OnOk result (self.new ≡ placed line.now self.old) }
     {
-        let place = place_of(&self.lines, line);
+        let place = insertion_index(&self.lines, line);
         self.lines.insert(place, *line)?;
         Ok(())
     }
 
-    /// Returns the lines.
+    /// Returns the lines by action (from UPG to ROU), then event.
     pub fn into_vec(self) -> Vec<SegLine>
         ensures { result.items ≡ self }
     {
@@ -176,7 +180,8 @@ impl Ordered {
     }
 }
 
-/// Adds a line to its group.
+/// Inserts a line into its group, in order by action, then event. If there is no such group yet, it
+/// is appended.
 fn add_line(alloc: Global, groups: &mut Groups, line: &Line) -> Result<(), Oom>
     ensures { OnOk result (groups_view groups.new.entries ≡ put same_group placed
         (groups_view groups.old.entries) (group_of line.now) (without_zone line.now)) }
@@ -186,7 +191,9 @@ fn add_line(alloc: Global, groups: &mut Groups, line: &Line) -> Result<(), Oom>
     Ok(())
 }
 
-/// Returns the groups in the order of their first lines, each with its lines in order.
+/// Returns the groups of the lines, in the order of their first lines in `lines`; a group is a zone
+/// with its lines of one FL event, or with all its other lines. The lines of each are by action,
+/// then event, ties as in `lines`.
 ///
 /// # Errors
 ///

@@ -14,7 +14,8 @@ pub type Heads = BTreeMap<Head, Vec<SegLine>>;
 /// The zones of each list of lines.
 pub type Classes<'a> = IndexMap<&'a [SegLine], Vec<Zone>>;
 
-/// Adds the lines of a group, if it has any.
+/// Adds to `heads` the lines of a group, in the order of its segment, under the group's zone and
+/// the event of their first line. Adds nothing if there is no line.
 fn add_head(heads: &mut Heads, group: &Group, lines: Vec<SegLine>) -> Result<(), Oom>
     ensures { OnOk result (heads_view heads.new.entries
         ≡ add_head (heads_view heads.old.entries) group.now lines.items) }
@@ -29,7 +30,8 @@ fn add_head(heads: &mut Heads, group: &Group, lines: Vec<SegLine>) -> Result<(),
     Ok(())
 }
 
-/// Returns the lists of lines of the groups, by zone and first event.
+/// Returns the lines of each group in the order of segments: by zone, then by the event of the
+/// group's first line.
 ///
 /// # Errors
 ///
@@ -45,7 +47,8 @@ pub fn heads_of(alloc: Global, groups: Groups) -> Result<Heads, Oom>
     Ok(heads)
 }
 
-/// Appends a zone to those of a list of lines.
+/// Appends a zone to the zones of the list of lines `lines` in `classes`. A list that is not there
+/// yet is added after the others.
 fn add_zone<'a>(
     alloc: Global,
     classes: &mut Classes<'a>,
@@ -62,7 +65,8 @@ fn add_zone<'a>(
     Ok(())
 }
 
-/// Returns the zones of each list of lines, in the order of `heads`.
+/// Returns each distinct list of lines with the zones that have it: the lists in the order of their
+/// first zones in `heads`, and the zones of each in that order.
 ///
 /// # Errors
 ///
@@ -78,7 +82,8 @@ pub fn classes_of<'a>(alloc: Global, heads: &'a Heads) -> Result<Classes<'a>, Oo
     Ok(classes)
 }
 
-/// Returns a segment for each list of lines and its zones.
+/// Returns the segments: for each list of lines in `classes`, in order, one with this list and its
+/// zones.
 ///
 /// # Errors
 ///

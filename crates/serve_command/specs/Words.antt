@@ -18,8 +18,8 @@ abbrev pub connections_in : List ℕ → Option Given
 connections_in value = option_map (λ n. Connections n) (count_in 1000000 value)
 
 -- what a word gives that is an option's name
-abbrev pub named_by : List ℕ → List ℕ → Option Given
-named_by name value =
+abbrev pub option_in_two_words : List ℕ → List ℕ → Option Given
+option_in_two_words name value =
     if bytes_eq name (codes "--port") then port_in value
     else if bytes_eq name (codes "--workers") then workers_in value
     else if bytes_eq name (codes "--connections") then connections_in value
@@ -30,8 +30,8 @@ abbrev pub begins : List ℕ → List ℕ → Bool
 begins front word = bytes_eq (take (length front) word) front
 
 -- what an option gives that is one word: `--port=N`, `--workers=W` or `--connections=M`
-abbrev pub joined_by : List ℕ → Option Given
-joined_by word =
+abbrev pub option_in_one_word : List ℕ → Option Given
+option_in_one_word word =
     if begins (codes "--port=") word then port_in (drop 7 word)
     else if begins (codes "--workers=") word then workers_in (drop 10 word)
     else if begins (codes "--connections=") word then connections_in (drop 14 word)
@@ -40,12 +40,12 @@ joined_by word =
 -- what the option gives whose name is the first word, and whose value the next
 abbrev pub parted_by : List ℕ → List (List ℕ) → Option Given
 parted_by name [] = None
-parted_by name (value ∷ words) = named_by name value
+parted_by name (value ∷ words) = option_in_two_words name value
 
 -- what the option gives that stands first, in one word or in two, and how many words it is
 abbrev pub first_given : List (List ℕ) → Option (Given × ℕ)
 first_given [] = None
-first_given (word ∷ words) = option_or (option_map (λ given. (given, 1)) (joined_by word)) (option_map (λ given. (given, 2)) (parted_by word words))
+first_given (word ∷ words) = option_or (option_map (λ given. (given, 1)) (option_in_one_word word)) (option_map (λ given. (given, 2)) (parted_by word words))
 
 abbrev pub port_of : Given → Option ℕ
 port_of (Port n) = Some n

@@ -10,8 +10,8 @@ use desk_traits::Disk;
 use office_core::requests_stand_once;
 use office_journal::KeptOffice;
 
-/// A law: an office that was opened has the history of its disk, and after it all that was accepted
-/// since.
+/// A law: the history of an office that was opened is the history that its disk had then, followed
+/// by all that was accepted since.
 pub fn an_opened_office_keeps_its_history<D: Disk>(kept: &KeptOffice<D>)
     ensures { (disk : D) (opened : Kept D D.Disk) (happenings : List (Happening D D.Disk))
         → IsOpened D.Disk disk opened → IsSince D.Disk opened kept.now happenings

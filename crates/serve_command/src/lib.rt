@@ -1,6 +1,6 @@
-//! The command `serve`: its arguments, and the office of a journal served over the links of a port.
-//! For the program `warn_main` and for tests. One begins with `parse_serve_args` for the arguments and
-//! `run_serve`.
+//! The command `serve`: its arguments, and the office of a journal served over the links of a
+//! port. For the program `warn_main` and for tests. One begins with `parse_serve_args` for the
+//! arguments and `run_serve`.
 #![tactic(auto)]
 
 mod growing;

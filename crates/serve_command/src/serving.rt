@@ -11,7 +11,7 @@ use byte_streams::Sink;
 use desk_commands::{Ended, open};
 use desk_links::{Gate, Port};
 use desk_traits::{Clock, Disk};
-use hazard_types::{List, Oom, Text, put_number};
+use hazard_types::{List, Oom, Text, write_number};
 use office_journal::KeptOffice;
 use program_ends::{End, end_at_once, tell};
 use std::alloc::Global;
@@ -31,21 +31,24 @@ pub struct Means<'a, R, C, G> {
     pub gate: &'a G,
 }
 
-/// The line `requests R products P`.
+/// Returns the line `requests R products P` with these numbers, and LF.
 #[tactic(auto, unfolding(crate::specs::Serving::summary))]
 fn summary(alloc: Global, requests: u64, products: u32) -> Result<Text, Oom>
     ensures { IfOk result (λ text. text ≡ summary requests products) }
 {
     let mut text = List::new(alloc);
     text.extend(b"requests ")?;
-    put_number(alloc, &mut text, requests as usize)?;
+    write_number(alloc, &mut text, requests as usize)?;
     text.extend(b" products ")?;
-    put_number(alloc, &mut text, products as usize)?;
+    write_number(alloc, &mut text, products as usize)?;
     text.extend(b"\n")?;
     Ok(text)
 }
 
-/// Writes the last line of a service, ends the run and returns the exit status.
+/// Writes the last line of a service and returns the exit status. If `end` is `Done`, the line is
+/// `requests R products P`, where R is the number of the requests that the office accepted, and P
+/// that of its products. Else, or if memory runs out for that line, it is the line of the fault: of
+/// the port or out of memory.
 fn write_served<K: Sink, D: Disk>(
     alloc: Global,
     output: &mut K,
@@ -65,7 +68,9 @@ fn write_served<K: Sink, D: Disk>(
     }
 }
 
-/// Serves an office that was opened.
+/// Serves the office `kept` over the links of `port` until as many links as `serving.connections`
+/// were served or a fault ends it. It then writes `requests R products P`, or the line of the
+/// fault, and returns the exit status and the disk.
 fn serve_office<
     R: Threads + Wait + Sync,
     K: Sink,
@@ -106,8 +111,9 @@ fn serve_office<
     }
 }
 
-/// Serves the office of the journal on `disk` over the links of `port`, writes `requests R products
-/// P` and ends the run. If no office is opened the port is left as it is.
+/// Serves the office of the journal on `disk` over the links of `port`, and returns the exit status
+/// and the disk. At its end it writes `requests R products P`, or the line of a fault. If no office
+/// can be opened, it writes why, and the port is left as it is.
 ///
 /// docs/SERVING.md.
 pub fn run_serve<

@@ -1,7 +1,7 @@
 //! The arguments of the command.
 ghost use Rattle.std.specs.Prelude.{◌≡◌, ◌≤◌, IfSome, length};
 ghost use Rattle.serve_command.specs.declared.words.Given.TheVariants.{Port, Workers, Connections};
-ghost use Rattle.serve_command.specs.Words.{IsGiven, IsServing, first_given, joined_by, named_by};
+ghost use Rattle.serve_command.specs.Words.{IsGiven, IsServing, first_given, option_in_one_word, option_in_two_words};
 ghost use Rattle.serve_command.specs.Words.{one_of, options_given, serving_given, parse_serve_args};
 ghost use Rattle.serve_command.specs.Words.{connections_in, connections_of, port_in};
 ghost use Rattle.serve_command.specs.Words.{port_of, workers_in, workers_of};
@@ -33,6 +33,7 @@ const MOST_WORKERS: u64 = 16;
 const MOST_CONNECTIONS: u64 = 1_000_000;
 
 impl Given {
+    /// Returns the port, or `None` if this is the value of another option.
     fn port(&self) -> Option<u16>
         ensures { result ≡ port_of self.now }
     {
@@ -42,6 +43,7 @@ impl Given {
         }
     }
 
+    /// Returns the number of workers, or `None` if this is the value of another option.
     fn workers(&self) -> Option<u8>
         ensures { result ≡ workers_of self.now }
     {
@@ -51,6 +53,7 @@ impl Given {
         }
     }
 
+    /// Returns the number of connections, or `None` if this is the value of another option.
     fn connections(&self) -> Option<u32>
         ensures { result ≡ connections_of self.now }
     {
@@ -61,6 +64,7 @@ impl Given {
     }
 }
 
+/// Returns the port that `value` is, or `None` if it is no decimal number from 1 to 65,535.
 fn port_in(value: &[u8]) -> Option<Given>
     ensures value { result ≡ port_in value.now }
     ensures form { IfSome result IsGiven }
@@ -69,6 +73,8 @@ fn port_in(value: &[u8]) -> Option<Given>
     Some(Given::Port(port as u16))
 }
 
+/// Returns the number of workers that `value` is, or `None` if it is no decimal number from 1 to
+/// 16.
 fn workers_in(value: &[u8]) -> Option<Given>
     ensures value { result ≡ workers_in value.now }
     ensures form { IfSome result IsGiven }
@@ -77,6 +83,8 @@ fn workers_in(value: &[u8]) -> Option<Given>
     Some(Given::Workers(workers as u8))
 }
 
+/// Returns the number of connections that `value` is, or `None` if it is no decimal number from 1
+/// to 1,000,000.
 fn connections_in(value: &[u8]) -> Option<Given>
     ensures value { result ≡ connections_in value.now }
     ensures form { IfSome result IsGiven }
@@ -85,9 +93,11 @@ fn connections_in(value: &[u8]) -> Option<Given>
     Some(Given::Connections(connections as u32))
 }
 
-/// The value of an option in two words, as `--port N`.
-fn named_by(name: &[u8], value: &[u8]) -> Option<Given>
-    ensures value { result ≡ named_by name.now value.now }
+/// Returns the value of an option in two words: `--port` with a number from 1 to 65,535,
+/// `--workers` with one from 1 to 16, or `--connections` with one from 1 to 1,000,000. `None` if
+/// `name` is none of these, or `value` is no decimal number within the limits.
+fn option_in_two_words(name: &[u8], value: &[u8]) -> Option<Given>
+    ensures value { result ≡ option_in_two_words name.now value.now }
     ensures form { IfSome result IsGiven }
 {
     if name == b"--port".as_slice() {
@@ -101,9 +111,11 @@ fn named_by(name: &[u8], value: &[u8]) -> Option<Given>
     }
 }
 
-/// The value of an option in one word, as `--port=N`.
-fn joined_by(word: &[u8]) -> Option<Given>
-    ensures value { result ≡ joined_by word.now }
+/// Returns the value of an option in one word: `--port=N` with a number from 1 to 65,535,
+/// `--workers=N` with one from 1 to 16, or `--connections=N` with one from 1 to 1,000,000. `None`
+/// if the word has none of these forms, or N is no decimal number within the limits.
+fn option_in_one_word(word: &[u8]) -> Option<Given>
+    ensures value { result ≡ option_in_one_word word.now }
     ensures form { IfSome result IsGiven }
 {
     if let Some(value) = word.strip_prefix(b"--port=") {
@@ -117,7 +129,9 @@ fn joined_by(word: &[u8]) -> Option<Given>
     }
 }
 
-/// The value of the first option, and its number of words.
+/// Returns the value of the option at the start of the words, and how many words it has: 1 as in
+/// `--port=N`, or 2 as in `--port N`. `None` if they do not start with `--port`, `--workers` or
+/// `--connections` and a number within its limits.
 fn first_given(words: &[Text]) -> Option<(Given, usize)>
     ensures value { result ≡ first_given words.now }
     ensures form { IfSome result (λ first. IsGiven first.0) }
@@ -126,17 +140,17 @@ fn first_given(words: &[Text]) -> Option<(Given, usize)>
     let [word, rest @ ..] = words else {
         return None;
     };
-    if let Some(given) = joined_by(word.as_slice()) {
+    if let Some(given) = option_in_one_word(word.as_slice()) {
         return Some((given, 1));
     }
     let [value, ..] = rest else {
         return None;
     };
-    let given = named_by(word.as_slice(), value.as_slice())?;
+    let given = option_in_two_words(word.as_slice(), value.as_slice())?;
     Some((given, 2))
 }
 
-/// The first port given.
+/// Returns the port that the first `--port` of three options gives, or `None` if none is `--port`.
 fn port_of(first: &Given, second: &Given, third: &Given) -> Option<u16>
     requires { IsGiven first.now × IsGiven second.now × IsGiven third.now }
     ensures value { result ≡ one_of port_of first.now second.now third.now }
@@ -145,7 +159,8 @@ fn port_of(first: &Given, second: &Given, third: &Given) -> Option<u16>
     first.port().or(second.port()).or(third.port())
 }
 
-/// The first number of workers given.
+/// Returns the number of workers that the first `--workers` of three options gives, or `None` if
+/// none is `--workers`.
 fn workers_of(first: &Given, second: &Given, third: &Given) -> Option<u8>
     requires { IsGiven first.now × IsGiven second.now × IsGiven third.now }
     ensures value { result ≡ one_of workers_of first.now second.now third.now }
@@ -154,7 +169,8 @@ fn workers_of(first: &Given, second: &Given, third: &Given) -> Option<u8>
     first.workers().or(second.workers()).or(third.workers())
 }
 
-/// The first number of connections given.
+/// Returns the number of connections that the first `--connections` of three options gives, or
+/// `None` if none is `--connections`.
 fn connections_of(first: &Given, second: &Given, third: &Given) -> Option<u32>
     requires { IsGiven first.now × IsGiven second.now × IsGiven third.now }
     ensures value { result ≡ one_of connections_of first.now second.now third.now }
@@ -166,7 +182,8 @@ fn connections_of(first: &Given, second: &Given, third: &Given) -> Option<u32>
         .or(third.connections())
 }
 
-/// The values of three options together, or `None` if one of the three names is missing.
+/// Returns the values of three options together, in whatever order, or `None` if one of the three
+/// is missing.
 fn serving_given(first: &Given, second: &Given, third: &Given) -> Option<Serving>
     requires { IsGiven first.now × IsGiven second.now × IsGiven third.now }
     ensures value { result ≡ serving_given first.now second.now third.now }
@@ -182,7 +199,9 @@ fn serving_given(first: &Given, second: &Given, third: &Given) -> Option<Serving
     })
 }
 
-/// The values of exactly three options.
+/// Returns the values of the three options `--port`, `--workers` and `--connections`, which the
+/// words must be in whatever order, each once. `None` if one is missing, is there twice or is not
+/// within its limits, or if there are other words.
 fn options_given(words: &[Text]) -> Option<Serving>
     ensures value { result ≡ options_given words.now }
     ensures form { IfSome result IsServing }
@@ -198,8 +217,10 @@ fn options_given(words: &[Text]) -> Option<Serving>
     serving_given(&first, &second, &third)
 }
 
-/// Parses the arguments `serve --port N --workers W --connections M`, options in any order. `None`
-/// exactly if they are something else.
+/// Returns the values of the arguments `serve --port N --workers W --connections M`, with each of
+/// the three options given once, in any order, as `--port N` or `--port=N`. N is from 1 to 65,535,
+/// W from 1 to 16 and M from 1 to 1,000,000, in decimal digits, leading zeros allowed. `None`
+/// exactly if the words are anything else.
 ///
 /// docs/SERVING.md, "Start it".
 #[tactic(auto, unfolding(crate::specs::Words::parse_serve_args))]

@@ -13,7 +13,7 @@ use std::collections::BTreeMap;
 /// The count of events of each hazard.
 pub type Events = BTreeMap<Hazard, u128>;
 
-/// Returns the count of events of a hazard.
+/// Returns the count that `events` has for a hazard; 0 if it has none.
 pub fn events_of(events: &Events, hazard: &Hazard) -> u128
     ensures { result ≡ sum_at by_hazard events.now.entries hazard.now }
 {
@@ -23,7 +23,7 @@ pub fn events_of(events: &Events, hazard: &Hazard) -> u128
     }
 }
 
-/// Counts an event of its hazard.
+/// Adds one to the count of the event's hazard.
 fn add_event(events: &mut Events, event: &Event) -> Result<(), Oom>
     ensures { OnOk result (events.new.entries ≡ with_event events.old.entries event.now) }
 {
@@ -33,7 +33,8 @@ fn add_event(events: &mut Events, event: &Event) -> Result<(), Oom>
     Ok(())
 }
 
-/// Returns the count of events that have rows, of each hazard.
+/// Returns, for each hazard, how many of its events have rows. `spells` has the spells of the rows
+/// of each event that has one.
 ///
 /// # Errors
 ///

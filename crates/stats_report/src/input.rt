@@ -13,7 +13,10 @@ use product_decoder::Feed;
 use program_ends::{Pieces, Stop};
 use std::alloc::Global;
 
-/// Takes the next finished product of the feed into the tally. Returns whether there was one.
+/// Takes the next finished product out of the feed and adds it to the tally, and returns whether
+/// there was one. A product is finished once the heading line of the next one is whole, or the end
+/// of the feed is marked. `asked` has the office and class whose lines count, and the minute before
+/// which minutes are counted.
 fn take_next(alloc: Global, asked: &Asked, feed: &mut Feed, tally: &mut Tally) -> Result<bool, Oom>
     requires { tally.old.count < 2000000000 }
     ensures ended { feed.new.ended ≡ feed.old.ended }
@@ -30,7 +33,10 @@ fn take_next(alloc: Global, asked: &Asked, feed: &mut Feed, tally: &mut Tally) -
     }
 }
 
-/// Takes each finished product of the feed into the tally.
+/// Takes each finished product out of the feed, in the order of the input, and adds it to the
+/// tally. A product is finished once the heading line of the next one is whole, or the end of the
+/// feed is marked. `asked` has the office and class whose lines count, and the minute before which
+/// minutes are counted.
 fn take_each(alloc: Global, asked: &Asked, feed: &mut Feed, tally: &mut Tally) -> Result<(), Oom>
     requires { tally.old.count + length feed.old.rest < 2000000000 }
     ensures { OnOk result (TakesEach asked.now feed.old feed.new tally.old tally.new) }
@@ -42,7 +48,9 @@ fn take_each(alloc: Global, asked: &Asked, feed: &mut Feed, tally: &mut Tally) -
     Ok(())
 }
 
-/// Reads an input of at most `limit` bytes to its end and takes its products into the tally.
+/// Reads an input of at most `limit` bytes to its end, and adds its products to the tally, which
+/// must have none before. `asked` has the office and class whose lines count, and the minute before
+/// which minutes are counted.
 ///
 /// # Errors
 ///

@@ -5,8 +5,9 @@ ghost use Rattle.stats_report.specs.Adding.{sum_where};
 ghost use Rattle.stats_report.specs.Minutes.{greatest, governing};
 ghost use Rattle.stats_report.specs.Report.{hazards_in, zones_in, hazard_minutes, zone_minutes, total_minutes};
 
-/// The products that govern a minute are the first `k`, for the greatest `k` such that the greatest
-/// issue minute of the first `k` is at most the minute.
+/// The products that govern a minute are the longest run of first products of the list of which
+/// none is issued after the minute. So the first `k` products are among them if and only if the
+/// greatest issue minute of these `k` is at most the minute.
 #[tactic(auto, using(crate::proofs::Governing::governing_front, crate::proofs::Governing::governing_greatest))]
 pub fn the_greatest_issue_minute_governs()
     ensures front { (m : ℕ) (products : List Product)
@@ -15,7 +16,9 @@ pub fn the_greatest_issue_minute_governs()
         → (greatest (take k products) ≤ m) ↔ (k ≤ length (governing m products)) }
 {}
 
-/// The total of the minutes is the sum over the hazards, and also the sum over the zones.
+/// The total of the minutes in effect before a stamp, over all rows that a list of products leaves,
+/// is the sum of those of each hazard that has rows. It is also the sum of those of each zone that
+/// has rows.
 #[tactic(auto, using(crate::proofs::Sharing::hazards_shared, crate::proofs::Sharing::zones_shared))]
 pub fn minutes_add_up()
     ensures hazards { (stamp : ℕ) (products : List Product) →

@@ -15,8 +15,8 @@ use crate::tally::Tally;
 use hazard_types::{Hazard, List, Oom, Text, Zone, hazard_text, zone_text};
 use std::alloc::Global;
 
-/// Adds a word and a number.
-fn put_named(alloc: Global, out: &mut Text, word: &[u8], n: u128) -> Result<(), Oom>
+/// Appends `word`, which ends with a blank, and after it the number `n` in decimal.
+fn write_named(alloc: Global, out: &mut Text, word: &[u8], n: u128) -> Result<(), Oom>
     ensures { OnOk result (out.new ≡ out.old ++ named word.now n) }
 {
     out.extend(word)?;
@@ -24,8 +24,10 @@ fn put_named(alloc: Global, out: &mut Text, word: &[u8], n: u128) -> Result<(), 
     out.extend(digits.as_bytes())
 }
 
-/// Adds the line `hazard H events N openings O lead L minutes M`.
-fn put_hazard(
+/// Appends the line `hazard H events N openings O lead L minutes M` of a hazard. N is the number of
+/// its events, O that of its openings, L the sum of their lead times and M that of the times in
+/// effect, both in minutes.
+fn write_hazard(
     alloc: Global,
     out: &mut Text,
     events: &Events,
@@ -38,15 +40,17 @@ fn put_hazard(
     let sums = hazard_sums(&standing.hazards, hazard);
     out.extend(b"hazard ")?;
     out.extend(&hazard_text(hazard))?;
-    put_named(alloc, out, b" events ", events_of(events, hazard))?;
-    put_named(alloc, out, b" openings ", sums.openings)?;
-    put_named(alloc, out, b" lead ", sums.lead)?;
-    put_named(alloc, out, b" minutes ", sums.minutes)?;
+    write_named(alloc, out, b" events ", events_of(events, hazard))?;
+    write_named(alloc, out, b" openings ", sums.openings)?;
+    write_named(alloc, out, b" lead ", sums.lead)?;
+    write_named(alloc, out, b" minutes ", sums.minutes)?;
     out.push(b'\n')
 }
 
-/// Adds the line `zone Z openings O minutes M`. `near` is a guess of the zone's place in the map.
-fn put_zone(
+/// Appends the line `zone Z openings O minutes M` of a zone, with the number of openings and the
+/// minutes in effect. `near` is a guess of the zone's index in the order of zones, on which the
+/// line does not depend; it may become the index of the next zone.
+fn write_zone(
     alloc: Global,
     out: &mut Text,
     standing: &Standing,
@@ -58,13 +62,14 @@ fn put_zone(
     let sums = zone_sums(&standing.zones, near, zone);
     out.extend(b"zone ")?;
     out.extend(&zone_text(zone))?;
-    put_named(alloc, out, b" openings ", sums.openings)?;
-    put_named(alloc, out, b" minutes ", sums.minutes)?;
+    write_named(alloc, out, b" openings ", sums.openings)?;
+    write_named(alloc, out, b" minutes ", sums.minutes)?;
     out.push(b'\n')
 }
 
-/// Adds the lines of the hazards that have rows.
-fn put_hazards(
+/// Appends the line of each hazard that has rows, in the order of hazards. `events` has the counts
+/// of events, and `standing` the sums.
+fn write_hazards(
     alloc: Global,
     out: &mut Text,
     events: &Events,
@@ -75,13 +80,14 @@ fn put_hazards(
         (keys_of standing.now.hazards.entries)) }
 {
     for hazard in standing.hazards.keys() {
-        put_hazard(alloc, out, events, standing, hazard)?;
+        write_hazard(alloc, out, events, standing, hazard)?;
     }
     Ok(())
 }
 
-/// Adds the lines of zones.
-fn put_zones(
+/// Appends the line of each of these zones, in the order of `zones`, with the sums that `standing`
+/// has for it. It is fastest for zones in ascending order.
+fn write_zones(
     alloc: Global,
     out: &mut Text,
     standing: &Standing,
@@ -92,30 +98,32 @@ fn put_zones(
 {
     let mut near = 0;
     for entry in zones {
-        put_zone(alloc, out, standing, &mut near, &entry.0)?;
+        write_zone(alloc, out, standing, &mut near, &entry.0)?;
     }
     Ok(())
 }
 
-/// Adds the line `total openings O minutes M`.
-fn put_total(alloc: Global, out: &mut Text, openings: u128, minutes: u128) -> Result<(), Oom>
+/// Appends the line `total openings O minutes M`, with the number of openings and the minutes in
+/// effect of all rows.
+fn write_total(alloc: Global, out: &mut Text, openings: u128, minutes: u128) -> Result<(), Oom>
     ensures { OnOk result (out.new ≡ out.old ++ total_text openings minutes) }
 {
-    put_named(alloc, out, b"total openings ", openings)?;
-    put_named(alloc, out, b" minutes ", minutes)?;
+    write_named(alloc, out, b"total openings ", openings)?;
+    write_named(alloc, out, b" minutes ", minutes)?;
     out.push(b'\n')
 }
 
-/// Adds the line `faults F`.
-fn put_faults(alloc: Global, out: &mut Text, faults: usize) -> Result<(), Oom>
+/// Appends the line `faults F`, with the number of products that have a fault.
+fn write_faults(alloc: Global, out: &mut Text, faults: usize) -> Result<(), Oom>
     ensures { OnOk result (out.new ≡ out.old ++ faults_text faults) }
 {
-    put_named(alloc, out, b"faults ", faults as u128)?;
+    write_named(alloc, out, b"faults ", faults as u128)?;
     out.push(b'\n')
 }
 
-/// Adds the lines of the totals and of the faults.
-fn put_end(
+/// Appends the lines `total openings O minutes M` and `faults F`, with the number of openings, the
+/// minutes in effect and the number of products that have a fault.
+fn write_end(
     alloc: Global,
     out: &mut Text,
     openings: u128,
@@ -125,8 +133,8 @@ fn put_end(
     ensures { OnOk result
         (out.new ≡ out.old ++ (total_text openings minutes ++ faults_text faults)) }
 {
-    put_total(alloc, out, openings, minutes)?;
-    put_faults(alloc, out, faults)
+    write_total(alloc, out, openings, minutes)?;
+    write_faults(alloc, out, faults)
 }
 
 /// Returns the text of the statistics: the lines of the hazards and then of the zones that have
@@ -146,8 +154,8 @@ pub fn text_of(alloc: Global, tally: &Tally) -> Result<Text, Oom>
     let events = events_by_hazard(alloc, &standing.spells)?;
     let zones = standing.zones.list(alloc)?;
     let mut out = List::new(alloc);
-    put_hazards(alloc, &mut out, &events, standing)?;
-    put_zones(alloc, &mut out, standing, zones.as_slice())?;
-    put_end(alloc, &mut out, all.openings, all.minutes, tally.faults)?;
+    write_hazards(alloc, &mut out, &events, standing)?;
+    write_zones(alloc, &mut out, standing, zones.as_slice())?;
+    write_end(alloc, &mut out, all.openings, all.minutes, tally.faults)?;
     Ok(out)
 }

@@ -64,7 +64,8 @@ pub struct Standing {
     pub all: Sums,
 }
 
-/// Returns the stamp, or the end if that is earlier.
+/// Returns the minute at which the count of a row's minutes stops: `stamp`, or `end` if that is
+/// earlier.
 fn cut_at(stamp: Minute, end: &End) -> u32
     ensures { result ≡ cut_at stamp end.now }
 {
@@ -74,7 +75,7 @@ fn cut_at(stamp: Minute, end: &End) -> u32
     }
 }
 
-/// Returns the begin that a line prints; the issue minute for zeros.
+/// Returns the begin that a line prints, or for zeros `t`, the issue minute.
 fn begin_printed(line: &Line, t: Minute) -> u32
     ensures { result ≡ begin_printed line.now t }
 {
@@ -84,21 +85,23 @@ fn begin_printed(line: &Line, t: Minute) -> u32
     }
 }
 
-/// Whether the action ends the row of its event in its zone.
+/// Whether the action ends the row of its event in its zone: CAN, EXP and UPG.
 fn ends(action: &Action) -> bool
     ensures { result ≡ ends action.now }
 {
     matches!(action, Action::Can | Action::Exp | Action::Upg)
 }
 
-/// Whether the action opens an event in its zone.
+/// Whether the action opens an event in its zone: NEW, EXA and EXB.
 fn opens(action: &Action) -> bool
     ensures { result ≡ opens action.now }
 {
     matches!(action, Action::New | Action::Exa | Action::Exb)
 }
 
-/// Returns the minutes in which the row of a lawful line is in effect; none if it ends the row.
+/// Returns the minutes before `moment.stamp` in which the row that a lawful line leaves is in
+/// effect: from the line's begin, or the issue minute if that is zeros, up to its end. They are
+/// none if the line ends the row.
 ///
 /// Source: docs/STATISTICS.md, "What is counted".
 fn spell_after(moment: &Moment, line: &Line) -> Spell
@@ -113,14 +116,14 @@ fn spell_after(moment: &Moment, line: &Line) -> Spell
     }
 }
 
-/// Returns how many minutes of a spell are at or after `from`.
+/// Returns how many minutes of a spell are at or after the minute `from`.
 fn spell_left(from: u32, spell: &Spell) -> u128
     ensures { result ≡ spell_left from spell.now }
 {
     u128::from(spell.stop.saturating_sub(from.max(spell.start)))
 }
 
-/// Returns how many minutes of a spell are at or after `from`; 0 if there is no spell.
+/// Returns how many minutes of a spell are at or after the minute `from`; 0 if there is no spell.
 fn left_of(from: u32, spell: &Option<Spell>) -> u128
     ensures { result ≡ left_of from spell.now }
 {
@@ -130,7 +133,8 @@ fn left_of(from: u32, spell: &Option<Spell>) -> u128
     }
 }
 
-/// Returns the minutes from the issue to the begin of a line that opens an event.
+/// Returns the lead time of a line that opens an event: the minutes from the issue minute of its
+/// product to its begin, or 0 if it begins before.
 fn lead_of(moment: &Moment, line: &Line) -> u128
     ensures { result ≡ begin_printed line.now moment.now.issue - moment.now.issue }
 {
@@ -138,7 +142,10 @@ fn lead_of(moment: &Moment, line: &Line) -> u128
     u128::from(begin.saturating_sub(moment.issue.get()))
 }
 
-/// Returns what a lawful line adds to the sums. `before` is the row's spell before it.
+/// Returns what a lawful line adds to the sums in one zone: an opening and its lead time if it
+/// opens an event, the minutes that its row has from `moment.from` on, and as `gone` those that the
+/// row had from there on before the line. `before` is the row's spell before the line, or `None` if
+/// there was no row.
 fn gain_of(moment: &Moment, line: &Line, before: &Option<Spell>) -> Gain
     ensures { result ≡ gain_of moment.now line.now before.now }
 {
@@ -151,7 +158,9 @@ fn gain_of(moment: &Moment, line: &Line, before: &Option<Spell>) -> Gain
     }
 }
 
-/// Returns what a lawful line changes in each of its zones.
+/// Returns what a lawful line other than ROU changes in each of its zones: the spell that its row
+/// gets, the minute from which this counts, and what it adds to the sums if there was no row
+/// before.
 fn change_of(moment: &Moment, line: &Line) -> Change
     ensures { result ≡ change_of moment.now line.now }
 {
@@ -162,7 +171,9 @@ fn change_of(moment: &Moment, line: &Line) -> Change
     }
 }
 
-/// Returns what a change adds to the sums. `before` is the row's spell before it.
+/// Returns what a change adds to the sums in one zone: its openings, lead time and minutes, and as
+/// `gone` the minutes that the row had before from `change.from` on. `before` is the row's spell
+/// before the change, or `None` if there was no row.
 fn gain_over(change: &Change, before: &Option<Spell>) -> Gain
     ensures { result ≡ gain_over change.now before.now }
 {
@@ -174,7 +185,9 @@ fn gain_over(change: &Change, before: &Option<Spell>) -> Gain
     }
 }
 
-/// Returns the sums of a zone. `near` is a guess of the zone's place in the map.
+/// Returns the sums of a zone, or sums of zero if it has none. `near` is a guess of the zone's
+/// index in the order of zones, on which the result does not depend; it may become the index of the
+/// next zone.
 pub fn zone_sums(zones: &ZoneMap<Sums>, near: &mut usize, zone: &Zone) -> Sums
     ensures { result ≡ sums_at by_place zones.now zone.now }
 {
@@ -184,7 +197,7 @@ pub fn zone_sums(zones: &ZoneMap<Sums>, near: &mut usize, zone: &Zone) -> Sums
     }
 }
 
-/// Returns the sums of a hazard.
+/// Returns the sums of a hazard, or sums of zero if it has none.
 pub fn hazard_sums(hazards: &BTreeMap<Hazard, Sums>, hazard: &Hazard) -> Sums
     ensures { result ≡ sums_at by_hazard hazards.now.entries hazard.now }
 {
@@ -194,7 +207,9 @@ pub fn hazard_sums(hazards: &BTreeMap<Hazard, Sums>, hazard: &Hazard) -> Sums
     }
 }
 
-/// Adds the gain to the sums of a zone. `near` is a guess of the zone's place in the map.
+/// Adds the gain to the sums of a zone, which are zero before if `zones` has none. `near` is a
+/// guess of the zone's index in the order of zones, on which the result does not depend; it may
+/// become the index of the next zone.
 fn change_zone(
     zones: &mut ZoneMap<Sums>,
     near: &mut usize,
@@ -209,7 +224,8 @@ fn change_zone(
     zones.set(*zone, sums, &mut before)
 }
 
-/// Adds the gain to the sums of the hazard and of all rows.
+/// Adds the gain, less its minutes `gone`, to the sums of one hazard, `totals.own`, and to those of
+/// all rows, `totals.all`.
 fn change_totals(totals: &mut Totals, gain: &Gain) -> Result<(), Oom>
     ensures own { OnOk result (totals.new.own ≡ gained totals.old.own gain.now) }
     ensures all { OnOk result (totals.new.all ≡ gained totals.old.all gain.now) }
@@ -219,7 +235,10 @@ fn change_totals(totals: &mut Totals, gain: &Gain) -> Result<(), Oom>
     Ok(())
 }
 
-/// Changes the row in a zone, and the sums. `near` is a guess of the zone's place in the map.
+/// Sets the spell of an event's row in a zone to that of `change`, and adds its gain, less the
+/// minutes that the row had before, to the sums of the zone in `zones` and to `totals`. `spells`
+/// has the spells of the event by zone. `near` is a guess of the zone's index in `zones`, on which
+/// the result does not depend; it may become the index of the next zone.
 fn change_row(
     spells: &mut ZoneMap<Spell>,
     zones: &mut ZoneMap<Sums>,
@@ -238,7 +257,9 @@ fn change_row(
     change_totals(totals, &gain)
 }
 
-/// Changes the rows in these zones, and the sums.
+/// Sets the spell of an event's row in each of the zones `places` to that of `change`, and adds the
+/// gain in each to the sums of the zone in `zones` and to `totals`. `spells` has the spells of the
+/// event by zone.
 fn change_rows(
     spells: &mut ZoneMap<Spell>,
     zones: &mut ZoneMap<Sums>,
@@ -257,7 +278,7 @@ fn change_rows(
 }
 
 impl Standing {
-    /// Returns the sums of no rows.
+    /// Returns a standing without rows, in which all sums are zero.
     pub fn new(alloc: Global) -> Self
         ensures spells { result.spells.entries ≡ [] }
         ensures zones { result.zones ≡ [] }
@@ -272,7 +293,8 @@ impl Standing {
         }
     }
 
-    /// Changes the rows of an event in these zones, and the sums.
+    /// Sets the spell of the event's row in each of the zones `places` to that of `change`, and
+    /// adds the gain in each to the sums of the zone, of the event's hazard and of all rows.
     fn change_event(
         &mut self,
         alloc: Global,
@@ -298,7 +320,9 @@ impl Standing {
         Ok(())
     }
 
-    /// Applies a line in these zones if it is lawful.
+    /// Sets the spells of the rows of a judged line in the zones `places`, and adds what they gain
+    /// to the sums, if the line is lawful and not ROU; else it changes nothing. `moment` is the
+    /// place in time of the line's product.
     fn change_verdict(
         &mut self,
         alloc: Global,
@@ -320,7 +344,9 @@ impl Standing {
         self.change_event(alloc, &change, &verdict.line.event, places)
     }
 
-    /// Applies the lawful ones of the lines, each in all zones.
+    /// Sets the spells of the rows of those of the judged lines that are lawful and not ROU, each
+    /// in all of the zones `places`, and adds what they gain to the sums. `moment` is the place in
+    /// time of the lines' product.
     fn change_verdicts(
         &mut self,
         alloc: Global,
@@ -338,7 +364,9 @@ impl Standing {
         Ok(())
     }
 
-    /// Applies the lawful lines of a run, which are of different events.
+    /// Applies the lawful lines of a run, which is a group of zones that have the same judged
+    /// lines, to the spells and the sums. The lines must be of different events, and `moment` is
+    /// the place in time of their product.
     fn change_run(&mut self, alloc: Global, moment: &Moment, run: &Run) -> Result<(), Oom>
         requires { HaveOwnEvents (map (λ v. v.line) run.now.verdicts) }
         ensures { OnOk result
@@ -348,7 +376,9 @@ impl Standing {
         self.change_verdicts(alloc, moment, verdicts, run.zones.as_slice())
     }
 
-    /// Applies the lawful lines of a product, as its runs have them. `moment` is the product's.
+    /// Applies the lawful lines of a product to the spells and the sums. `moment` is the product's
+    /// place in time, and `runs` has its judged lines, each with its zones. The lines of one run
+    /// must be of different events.
     ///
     /// # Errors
     ///

@@ -16,7 +16,9 @@ use program_ends::{End, Stop, end_at_once, end_run};
 use program_outside::Program;
 use std::alloc::Global;
 
-/// Reads an input of at most `limit` bytes to its end, and then writes its statistics.
+/// Reads an input of at most `limit` bytes to its end, and then writes the text of its statistics.
+/// `asked` has the office and class whose lines count, and the minute before which minutes are
+/// counted. On `Stop::Write` a part of the text may be written, on another error nothing is.
 fn write_stats<S: Source, K: Sink>(
     alloc: Global,
     asked: &Asked,
@@ -51,10 +53,14 @@ impl<S: Source, K: Sink> Program<S, K> for Statistics {
 
     ghost usage = { codes "warn_stats OFFICE CLASS STAMP\n" };
 
+    /// Returns the usage line of `warn_stats`, with its LF.
     fn usage() -> &'static str {
         "warn_stats OFFICE CLASS STAMP\n"
     }
 
+    /// Writes the statistics of an input of at most `limit` bytes, as the words ask for them, or
+    /// how the run failed, and returns the exit status. If the words are not `OFFICE CLASS STAMP`,
+    /// nothing is read.
     fn run(alloc: Global, words: &List<Text>, limit: usize, input: &mut S, output: &mut K) -> u8 {
         let Some(asked) = asked_of(words) else {
             return end_at_once(output, End::Usage);

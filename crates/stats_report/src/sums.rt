@@ -51,7 +51,8 @@ pub fn checked_sum(sum: u128, amount: u128) -> Result<u128, Oom>
     }
 }
 
-/// Returns the sums with what the line adds, and without the minutes `gone`.
+/// Returns the sums with the openings, the lead time and the minutes of the gain added, and its
+/// minutes `gone` taken off the minutes, which do not fall below 0.
 ///
 /// # Errors
 ///

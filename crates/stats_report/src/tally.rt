@@ -40,7 +40,7 @@ fn one_more(count: usize) -> Result<usize, Oom>
 }
 
 impl Tally {
-    /// Returns the tally of no products.
+    /// Returns a tally without products, in which all counts and sums are zero.
     #[tactic(auto, using(crate::proofs::Keeping::none_kept))]
     pub fn new(alloc: Global) -> Self
         ensures kept { (stamp : ℕ) → IsKept stamp [] result }
@@ -56,7 +56,9 @@ impl Tally {
         }
     }
 
-    /// Takes a product without a fault.
+    /// Adds the lines of a product without a fault to the rows and to the sums, and makes its issue
+    /// minute the `latest` if it is later. Lines of another office or class than `asked` has are
+    /// passed over, and minutes are counted before the minute of `asked`.
     fn add_product_lines(&mut self, alloc: Global, asked: &Asked, frame: &Frame) -> Result<(), Oom>
         ensures { OnOk result (TakesProduct asked.now (decoded_of frame.now) self.old self.new) }
     {
@@ -74,7 +76,7 @@ impl Tally {
         self.standing.change_all(alloc, &moment, runs)
     }
 
-    /// Counts a product with a fault.
+    /// Adds one to the count of products that have a fault.
     fn count_fault(&mut self) -> Result<(), Oom>
         ensures { OnOk result (CountsFault self.old self.new) }
     {
@@ -82,7 +84,9 @@ impl Tally {
         Ok(())
     }
 
-    /// Takes a product, or counts its fault, apart from the count of all products.
+    /// Adds the lines of a product, or its fault if it has one, to the tally. The count of all
+    /// products stays as it is, and `asked` has the office and class whose lines count and the
+    /// minute before which minutes are counted.
     fn add_reading(&mut self, alloc: Global, asked: &Asked, reading: &Reading) -> Result<(), Oom>
         ensures { OnOk result (TakesReading asked.now (said_of reading.now) self.old self.new) }
     {
@@ -92,7 +96,10 @@ impl Tally {
         }
     }
 
-    /// Takes the next product, or counts its fault.
+    /// Adds the next product of the input, as it was read, to the tally: to the count of products,
+    /// and its lines, or its fault if it has one. The tally must have fewer than 2,000,000,000
+    /// products. `asked` has the office and class whose lines count, and the minute before which
+    /// minutes are counted.
     ///
     /// # Errors
     ///

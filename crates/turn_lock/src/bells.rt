@@ -21,12 +21,15 @@ pub(crate) struct Bells {
     ghost many: { vec_len row ≡ 64 },
 }
 
-/// The mark of a ticket, an odd number, so never `SILENT`.
+/// Returns the mark that the holder of a ticket sets before sleeping: an odd number, so never 0,
+/// which stands for no mark. Tickets that differ by a multiple of 2^31 have the same mark.
 fn mark_of(ticket: u64) -> u32 {
     (ticket % (1 << 31)) as u32 * 2 + 1
 }
 
 impl Bells {
+    /// Returns 64 bells (words at which callers sleep), at which nobody sleeps. `Err` is out of
+    /// memory.
     pub(crate) fn new(alloc: Global) -> Result<Self, Oom> {
         let mut row = Vec::with_capacity(alloc, BELLS)?;
         for _ in 0..BELLS {
@@ -35,6 +38,8 @@ impl Bells {
         Ok(Bells { row })
     }
 
+    /// Returns the word at which the holder of a ticket sleeps. Tickets that differ by a multiple
+    /// of 64 have the same word.
     fn bell(&self, ticket: u64) -> &AtomicU64 {
         &self.row[(ticket % BELLS as u64) as usize]
     }
@@ -50,7 +55,8 @@ impl Bells {
         self.bell(ticket).park(rt, mark_of(ticket));
     }
 
-    /// Wakes those who sleep at the ticket's word, if it has a mark.
+    /// Wakes all who sleep at the ticket's word and removes the mark there; does nothing if the
+    /// word has no mark.
     pub(crate) fn ring(&self, ticket: u64) {
         let bell = self.bell(ticket);
         if bell.load(Ordering::SeqCst) != SILENT {

@@ -105,7 +105,9 @@ impl<T: Storied> TurnLock<T> {
         Ok(Pass { seat })
     }
 
-    /// Adds to `pass` what `other` has seen and added, and its shares.
+    /// Joins `other` to `pass`, which then has the shares of both, the entries that either has
+    /// added, and the longer of the two lists of entries that they have seen. Both must be passes
+    /// of this lock.
     pub fn join(&self, pass: &mut Pass<T>, other: Pass<T>)
         requires pass { pass.old.lock ≡ self.now }
         requires other { other.lock ≡ self.now }
@@ -120,8 +122,9 @@ impl<T: Storied> TurnLock<T> {
         self.table.shared.load::<Settle>(&mut pass.seat, COUNT);
     }
 
-    /// Returns the value and ends the lock. `pass` must have all shares; from the length at `start`
-    /// on, the value's list has exactly the entries of the pass.
+    /// Returns the value and ends the lock. `pass` must have all 1,024 shares; then all entries
+    /// that the value's list got since `start` are entries that the pass, or one joined to it, has
+    /// added.
     pub fn close(self, pass: Pass<T>) -> T
         requires pass { pass.lock ≡ self }
         requires shares { pass.shares ≡ 1024 }

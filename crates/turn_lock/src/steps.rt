@@ -22,7 +22,8 @@ pub(crate) const SERVING: usize = 1;
 pub(crate) const COUNT: usize = 2;
 
 impl<T: Storied> TurnLock<T> {
-    /// Draws the next ticket and returns it.
+    /// Draws the next ticket for the pass of `seat`, which must hold none, and returns it. Tickets
+    /// are served in the order in which they are drawn.
     pub(crate) fn draw<R: Wait>(
         &self,
         rt: &R,
@@ -48,8 +49,8 @@ impl<T: Storied> TurnLock<T> {
         unreachable!()
     }
 
-    /// Waits until the ticket is served, takes the value out, and returns it with the number of its
-    /// entries.
+    /// Waits until the ticket, which was drawn for `seat`, is served, takes the value out of the
+    /// lock, and returns it with the number of its entries.
     pub(crate) fn take<R: Wait>(
         &self,
         rt: &R,
@@ -80,7 +81,7 @@ impl<T: Storied> TurnLock<T> {
         unreachable!()
     }
 
-    /// Sleeps until the ticket is served. It may return earlier.
+    /// Sleeps until the ticket is served. It may return earlier, so the caller must look again.
     fn wait_for<R: Wait>(&self, rt: &R, ticket: u64) {
         self.bells.mark(ticket);
         // Whoever passes the turn on from here on finds the mark.
@@ -89,7 +90,8 @@ impl<T: Storied> TurnLock<T> {
         }
     }
 
-    /// Puts the value back, and counts its last entry if it has more than `before`.
+    /// Puts the value back into the lock, and counts the entry that was added if it has more than
+    /// `before`, the number of its entries when it was taken out. It may have one more at most.
     pub(crate) fn put_back(
         &self,
         seat: &mut Seat<Option<T>, View<T::Base, T::Entry>>,
@@ -119,7 +121,8 @@ impl<T: Storied> TurnLock<T> {
         }
     }
 
-    /// Serves the next ticket, and wakes its holder if it sleeps.
+    /// Serves the next ticket, and wakes its holder if it sleeps. `seat` must have the turn, and
+    /// the value must be back in the lock; the seat then holds no ticket.
     pub(crate) fn pass_on(&self, seat: &mut Seat<Option<T>, View<T::Base, T::Entry>>)
         requires seat { (seat.old.table_id ≡ self.now)
             × ((ticket : ℕ) × (seat.old.me.0.stage ≡ Learnt ticket)) }

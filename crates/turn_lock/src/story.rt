@@ -13,7 +13,7 @@ pub trait Storied {
 
     ghost story: { Self → List Self.Entry };
 
-    /// Returns the number of entries.
+    /// Returns the number of entries in the value's list.
     fn count(&self) -> u64
         ensures { result ≡ length (story self.now) };
 }

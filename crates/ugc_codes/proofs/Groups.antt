@@ -18,7 +18,7 @@ use Rattle.ugc_codes.specs.declared.read.Refused.TheVariants.{NoCode, NoRange}
 use Rattle.hazard_types.proofs.DayTexts.{day_stamp_back, day_stamp_read}
 use Rattle.ugc_codes.specs.declared.span.Span.{Span}
 use Rattle.ugc_codes.specs.declared.read.Refused.{Refused}
-use Rattle.ugc_codes.specs.Codes.{three_of, full_code, short_code, code_of, run_of, single_of, day_of, group_of, is_run, or_refused, run_to, three_at}
+use Rattle.ugc_codes.specs.Codes.{parse_three_digits, full_code, short_code, code_of, parse_run, parse_single, parse_expiry, parse_group, is_run, or_refused, rising_run, three_at}
 use Rattle.hazard_types.specs.Digits.{parse_day_stamp}
 use Rattle.hazard_types.specs.Names.{kind_at}
 use Rattle.ugc_codes.specs.Faults.{IsBackwards, IsNoGroup}
@@ -26,8 +26,8 @@ use Rattle.ugc_codes.specs.Grammar.{numbered, IsSpan, run_end, full_text, short_
 use Rattle.hazard_types.specs.Digits.{is_day_stamp, three_digits, day_text}
 use Rattle.hazard_types.specs.Names.{zone_text, kind_code}
 
-pub three_read : (n : ℕ) → n ≤ 999 → three_of (48 + n / 100) (48 + n / 10 % 10) (48 + n % 10) ≡ Some n
-unfolding three_of
+pub three_read : (n : ℕ) → n ≤ 999 → parse_three_digits (48 + n / 100) (48 + n / 10 % 10) (48 + n % 10) ≡ Some n
+unfolding parse_three_digits
 three_read n h = grind (arith, nat_tests)
 
 pub full_read : (a b : ℕ) (kind : Kind) (n : ℕ) → are_letters (a ∷ b ∷ []) ≡ true → is_number n ≡ true → full_code (a ∷ b ∷ kind_code kind ∷ three_digits n) ≡ Some (record { state = a ∷ b ∷ []; kind = kind; number = n })
@@ -40,28 +40,28 @@ unfolding short_code
 short_read p n number = let le : n ≤ 999 = grind (arith, nat_tests) in rw (three_read n le, number) refl
 
 full_single : (before : Option Place) (a b : ℕ) (kind : Kind) (n : ℕ) → are_letters (a ∷ b ∷ []) ≡ true → is_number n ≡ true →
-    group_of before (a ∷ b ∷ kind_code kind ∷ three_digits n) ≡ Ok (Zones (record { state = a ∷ b ∷ []; kind = kind; number = n }) n)
-unfolding group_of single_of
+    parse_group before (a ∷ b ∷ kind_code kind ∷ three_digits n) ≡ Ok (Zones (record { state = a ∷ b ∷ []; kind = kind; number = n }) n)
+unfolding parse_group parse_single
 full_single before a b C n letters number = rw (full_read a b C n letters number) refl
 full_single before a b Z n letters number = rw (full_read a b Z n letters number) refl
 
 full_run : (before : Option Place) (a b : ℕ) (kind : Kind) (n last : ℕ) → are_letters (a ∷ b ∷ []) ≡ true → is_number n ≡ true → n < last → last ≤ 999 →
-    group_of before (a ∷ b ∷ kind_code kind ∷ (48 + n / 100) ∷ (48 + n / 10 % 10) ∷ (48 + n % 10) ∷ 62 ∷ three_digits last) ≡ Ok (Zones (record { state = a ∷ b ∷ []; kind = kind; number = n }) last)
-unfolding group_of run_of
+    parse_group before (a ∷ b ∷ kind_code kind ∷ (48 + n / 100) ∷ (48 + n / 10 % 10) ∷ (48 + n % 10) ∷ 62 ∷ three_digits last) ≡ Ok (Zones (record { state = a ∷ b ∷ []; kind = kind; number = n }) last)
+unfolding parse_group parse_run
 full_run before a b kind n last letters number lt le = rw (full_read a b kind n letters number, three_read last le, lt-ltb n last lt) refl
 
-short_single : (p : Place) (n : ℕ) → is_number n ≡ true → group_of (Some p) (three_digits n) ≡ Ok (Zones (numbered p n) n)
-unfolding group_of single_of
+short_single : (p : Place) (n : ℕ) → is_number n ≡ true → parse_group (Some p) (three_digits n) ≡ Ok (Zones (numbered p n) n)
+unfolding parse_group parse_single
 short_single p n number = rw (short_read p n number) refl
 
 short_run : (p : Place) (n last : ℕ) → is_number n ≡ true → n < last → last ≤ 999 →
-    group_of (Some p) ((48 + n / 100) ∷ (48 + n / 10 % 10) ∷ (48 + n % 10) ∷ 62 ∷ three_digits last) ≡ Ok (Zones (numbered p n) last)
-unfolding group_of run_of
+    parse_group (Some p) ((48 + n / 100) ∷ (48 + n / 10 % 10) ∷ (48 + n % 10) ∷ 62 ∷ three_digits last) ≡ Ok (Zones (numbered p n) last)
+unfolding parse_group parse_run
 short_run p n last number lt le = rw (short_read p n number, three_read last le, lt-ltb n last lt) refl
 
 -- a group that is spelled is read
 full_group : (before : Option Place) (state : List ℕ) (kind : Kind) (n last : ℕ) → length state ≡ 2 → are_letters state ≡ true → is_number n ≡ true → last ≤ 999 → n ≤ last →
-    group_of before (full_text (record { first = record { state = state; kind = kind; number = n }; last = last })) ≡ Ok (Zones (record { state = state; kind = kind; number = n }) last)
+    parse_group before (full_text (record { first = record { state = state; kind = kind; number = n }; last = last })) ≡ Ok (Zones (record { state = state; kind = kind; number = n }) last)
 unfolding run_end
 full_group before [] kind n last two letters number le order = absurd (omega arith)
 full_group before (a ∷ []) kind n last two letters number le order = absurd (omega arith)
@@ -73,7 +73,7 @@ full_group before (a ∷ b ∷ []) kind n last two letters number le order =
     ]
 
 short_group : (p : Place) (n last : ℕ) → is_number n ≡ true → last ≤ 999 → n ≤ last →
-    group_of (Some p) (short_text (record { first = numbered p n; last = last })) ≡ Ok (Zones (numbered p n) last)
+    parse_group (Some p) (short_text (record { first = numbered p n; last = last })) ≡ Ok (Zones (numbered p n) last)
 unfolding run_end
 short_group p n last number le order =
     elim (eqb_tells n last) [
@@ -85,12 +85,12 @@ short_group p n last number le order =
 same_place : (b p : Place) → b.state ≡ p.state → b.kind ≡ p.kind → numbered b p.number ≡ p
 same_place b p e f = λ i. record { state = e i; kind = f i; number = p.number }
 
-pub group_spelled : (before : Option Place) (s : Span) (own : List ℕ) → IsSpan s → Spells before s own → group_of before own ≡ Ok (Zones s.first s.last)
+pub group_spelled : (before : Option Place) (s : Span) (own : List ℕ) → IsSpan s → Spells before s own → parse_group before own ≡ Ok (Zones s.first s.last)
 unfolding run_end
-group_spelled before s own is (inl e) = ap (group_of before) e ∙ full_group before s.first.state s.first.kind s.first.number s.last is.state is.letters is.first is.last is.order
+group_spelled before s own is (inl e) = ap (parse_group before) e ∙ full_group before s.first.state s.first.kind s.first.number s.last is.state is.letters is.first is.last is.order
 group_spelled None s own is (inr h) = absurd h.0
 group_spelled (Some b) s own is (inr h) =
-    ap (group_of (Some b)) h.1 ∙ short_group b s.first.number s.last is.first is.last is.order ∙ ap (λ (p : Place). Ok (Zones p s.last)) (same_place b s.first h.0.0 h.0.1)
+    ap (parse_group (Some b)) h.1 ∙ short_group b s.first.number s.last is.first is.last is.order ∙ ap (λ (p : Place). Ok (Zones p s.last)) (same_place b s.first h.0.0 h.0.1)
 
 -- ---- and back: what is read is spelled
 
@@ -108,8 +108,8 @@ pub record Coded (before : Option Place) (text : List ℕ) (p : Place) : Type 0 
 digit_range : (x : ℕ) → is_digit x ≡ true → (48 ≤ x) × (x ≤ 57)
 digit_range x h = let p = and_parts _ _ h in (leb-true _ _ p.0, leb-true _ _ p.1)
 
-three_back : (x y z n : ℕ) → three_of x y z ≡ Some n → (n ≤ 999) × (x ≡ 48 + n / 100) × (y ≡ 48 + n / 10 % 10) × (z ≡ 48 + n % 10)
-unfolding three_of
+three_back : (x y z n : ℕ) → parse_three_digits x y z ≡ Some n → (n ≤ 999) × (x ≡ 48 + n / 100) × (y ≡ 48 + n / 10 % 10) × (z ≡ 48 + n % 10)
+unfolding parse_three_digits
 three_back x y z n h =
     let found = cond_some _ _ _ h in
     let first = and_parts _ _ found.0 in
@@ -205,8 +205,8 @@ coded_append : (before : Option Place) (front tail text : List ℕ) (p : Place) 
 coded_append before front tail text p (inl e) whole = inl (whole ∙ ap (λ (xs : List ℕ). xs ++ tail) e)
 coded_append before front tail text p (inr e) whole = inr (e.0, whole ∙ ap (λ (xs : List ℕ). xs ++ tail) e.1)
 
-run_back : (before : Option Place) (text : List ℕ) (p : Place) (n : ℕ) → IsBefore before → is_run text ≡ true → run_of before text ≡ Ok (Zones p n) → IsSpan (record { first = p; last = n }) × Spells before (record { first = p; last = n }) text
-unfolding run_of run_end
+run_back : (before : Option Place) (text : List ℕ) (p : Place) (n : ℕ) → IsBefore before → is_run text ≡ true → parse_run before text ≡ Ok (Zones p n) → IsSpan (record { first = p; last = n }) × Spells before (record { first = p; last = n }) text
+unfolding parse_run run_end
 run_back before text p n good runs h =
     let a = or_refused_ok _ _ _ h in
     let b = or_refused_ok _ _ _ a.2 in
@@ -221,14 +221,14 @@ run_back before text p n good runs h =
     let both : IsSpan s × Spells before s text = (is, spells) in
     subst (λ (q : Place × ℕ). IsSpan (record { first = q.0; last = q.1 }) × Spells before (record { first = q.0; last = q.1 }) text) (λ i. (order.1 i, order.2 i)) both
   where
-    run_ok : (a : Place) (b : ℕ) (p : Place) (n : ℕ) → run_to a b ≡ Ok (Zones p n) → (nat_lt a.number b ≡ true) × (a ≡ p) × (b ≡ n)
+    run_ok : (a : Place) (b : ℕ) (p : Place) (n : ℕ) → rising_run a b ≡ Ok (Zones p n) → (nat_lt a.number b ≡ true) × (a ≡ p) × (b ≡ n)
     run_ok a b p n h = elim (cases_Bool (nat_lt a.number b)) [
       | inl e ↦ let g : Ok (Zones a b) ≡ Ok (Zones p n) = rw e at h in (e, cc, cc)
       | inr e ↦ let g : Err NoRange ≡ Ok (Zones p n) = rw e at h in absurd (cc)
     ]
 
-single_back : (before : Option Place) (text : List ℕ) (p : Place) (n : ℕ) → IsBefore before → single_of before text ≡ Ok (Zones p n) → IsSpan (record { first = p; last = n }) × Spells before (record { first = p; last = n }) text
-unfolding single_of run_end
+single_back : (before : Option Place) (text : List ℕ) (p : Place) (n : ℕ) → IsBefore before → parse_single before text ≡ Ok (Zones p n) → IsSpan (record { first = p; last = n }) × Spells before (record { first = p; last = n }) text
+unfolding parse_single run_end
 single_back before text p n good h =
     let a = or_refused_ok _ _ _ h in
     let g : Ok (Zones a.0 a.0.number) ≡ Ok (Zones p n) = a.2 in
@@ -251,44 +251,44 @@ single_back before text p n good h =
 pub same_ok : (g h : Group) → ◌≡◌ {A = Result Group Refused} (Ok g) (Ok h) → g ≡ h
 same_ok g h e = cc e
 
-day_steps : (before : Option Place) (text : List ℕ) (g : Group) → day_of before text ≡ Ok g → (p : Place) × (d : DayStamp) × (before ≡ Some p) × (parse_day_stamp text ≡ Some d) × (g ≡ Expiry d)
-unfolding day_of
+day_steps : (before : Option Place) (text : List ℕ) (g : Group) → parse_expiry before text ≡ Ok g → (p : Place) × (d : DayStamp) × (before ≡ Some p) × (parse_day_stamp text ≡ Some d) × (g ≡ Expiry d)
+unfolding parse_expiry
 day_steps before text g h =
     let a = or_refused_ok before (λ _. or_refused (parse_day_stamp text) (λ d. Ok (Expiry d))) g h in
     let b = or_refused_ok (parse_day_stamp text) (λ d. Ok (Expiry d)) g a.2 in
     (a.0, b.0, a.1, b.1, sym (same_ok (Expiry b.0) g b.2))
 
-day_no_zones : (before : Option Place) (text : List ℕ) (p : Place) (n : ℕ) → day_of before text ≡ Ok (Zones p n) → ⊥
+day_no_zones : (before : Option Place) (text : List ℕ) (p : Place) (n : ℕ) → parse_expiry before text ≡ Ok (Zones p n) → ⊥
 day_no_zones before text p n h = let a = day_steps before text (Zones p n) h in cc a.4
 
-run_steps : (before : Option Place) (text : List ℕ) (g : Group) → run_of before text ≡ Ok g → (p : Place) × (n : ℕ) × (run_to p n ≡ Ok g)
-unfolding run_of
+run_steps : (before : Option Place) (text : List ℕ) (g : Group) → parse_run before text ≡ Ok g → (p : Place) × (n : ℕ) × (rising_run p n ≡ Ok g)
+unfolding parse_run
 run_steps before text g h =
-    let a = or_refused_ok (code_of before (take (length text - 4) text)) (λ first. or_refused (three_at text (length text - 3)) (run_to first)) g h in
-    let b = or_refused_ok (three_at text (length text - 3)) (run_to a.0) g a.2 in
+    let a = or_refused_ok (code_of before (take (length text - 4) text)) (λ first. or_refused (three_at text (length text - 3)) (rising_run first)) g h in
+    let b = or_refused_ok (three_at text (length text - 3)) (rising_run a.0) g a.2 in
     (a.0, b.0, b.2)
 
-to_no_day : (a : Place) (b : ℕ) (d : DayStamp) → run_to a b ≡ Ok (Expiry d) → ⊥
+to_no_day : (a : Place) (b : ℕ) (d : DayStamp) → rising_run a b ≡ Ok (Expiry d) → ⊥
 to_no_day a b d h = elim (cases_Bool (nat_lt a.number b)) [
   | inl f ↦ let k : ◌≡◌ {A = Result Group Refused} (Ok (Zones a b)) (Ok (Expiry d)) = rw f at h in cc k
   | inr f ↦ let k : ◌≡◌ {A = Result Group Refused} (Err NoRange) (Ok (Expiry d)) = rw f at h in cc k
 ]
 
-run_no_day : (before : Option Place) (text : List ℕ) (d : DayStamp) → run_of before text ≡ Ok (Expiry d) → ⊥
+run_no_day : (before : Option Place) (text : List ℕ) (d : DayStamp) → parse_run before text ≡ Ok (Expiry d) → ⊥
 run_no_day before text d h = let a = run_steps before text (Expiry d) h in to_no_day a.0 a.1 d a.2
 
-single_no_day : (before : Option Place) (text : List ℕ) (d : DayStamp) → single_of before text ≡ Ok (Expiry d) → ⊥
-unfolding single_of
+single_no_day : (before : Option Place) (text : List ℕ) (d : DayStamp) → parse_single before text ≡ Ok (Expiry d) → ⊥
+unfolding parse_single
 single_no_day before text d h =
     let a = or_refused_ok (code_of before text) (λ p. Ok (Zones p p.number)) (Expiry d) h in cc (same_ok (Zones a.0 a.0.number) (Expiry d) a.2)
 
 -- what a group names is spelled by it
-pub group_back : (before : Option Place) (text : List ℕ) (p : Place) (n : ℕ) → IsBefore before → group_of before text ≡ Ok (Zones p n) → IsSpan (record { first = p; last = n }) × Spells before (record { first = p; last = n }) text
-unfolding group_of
+pub group_back : (before : Option Place) (text : List ℕ) (p : Place) (n : ℕ) → IsBefore before → parse_group before text ≡ Ok (Zones p n) → IsSpan (record { first = p; last = n }) × Spells before (record { first = p; last = n }) text
+unfolding parse_group
 group_back before text p n good h =
     elim (cases_Bool (is_run text)) [
       | inl e ↦ run_back before text p n good e (rw e at h)
-      | inr e ↦ let h2 : cond (is_some (code_of before text)) (single_of before text) (day_of before text) ≡ Ok (Zones p n) = rw e at h in
+      | inr e ↦ let h2 : cond (is_some (code_of before text)) (parse_single before text) (parse_expiry before text) ≡ Ok (Zones p n) = rw e at h in
           elim (cases_Bool (is_some (code_of before text))) [
             | inl f ↦ single_back before text p n good (rw f at h2)
             | inr f ↦ absurd (day_no_zones before text p n (rw f at h2))
@@ -297,7 +297,7 @@ group_back before text p n good h =
 
 -- ---- the expiry
 
-day_parts : (before : Option Place) (text : List ℕ) (d : DayStamp) → day_of before text ≡ Ok (Expiry d) → HasCode before × IsTrue (is_day_stamp d) × (text ≡ day_text d)
+day_parts : (before : Option Place) (text : List ℕ) (d : DayStamp) → parse_expiry before text ≡ Ok (Expiry d) → HasCode before × IsTrue (is_day_stamp d) × (text ≡ day_text d)
 day_parts before text d h =
     let a = day_steps before text (Expiry d) h in
     let same : a.1 ≡ d = cc a.4 in
@@ -308,12 +308,12 @@ day_parts before text d h =
     has_code None p e = absurd (cc e)
     has_code (Some b) p e = tt
 
-pub day_back : (before : Option Place) (text : List ℕ) (d : DayStamp) → group_of before text ≡ Ok (Expiry d) → HasCode before × IsTrue (is_day_stamp d) × (text ≡ day_text d)
-unfolding group_of
+pub day_back : (before : Option Place) (text : List ℕ) (d : DayStamp) → parse_group before text ≡ Ok (Expiry d) → HasCode before × IsTrue (is_day_stamp d) × (text ≡ day_text d)
+unfolding parse_group
 day_back before text d h =
     elim (cases_Bool (is_run text)) [
       | inl e ↦ absurd (run_no_day before text d (rw e at h))
-      | inr e ↦ let h2 : cond (is_some (code_of before text)) (single_of before text) (day_of before text) ≡ Ok (Expiry d) = rw e at h in
+      | inr e ↦ let h2 : cond (is_some (code_of before text)) (parse_single before text) (parse_expiry before text) ≡ Ok (Expiry d) = rw e at h in
           elim (cases_Bool (is_some (code_of before text))) [
             | inl f ↦ absurd (single_no_day before text d (rw f at h2))
             | inr f ↦ day_parts before text d (rw f at h2)
@@ -331,8 +331,8 @@ no_full c d e x y z h =
 tens_digit : (b : ℕ) → b ≤ 23 → is_digit (48 + b / 10) ≡ true
 tens_digit b q = grind (arith, nat_tests)
 
-pub day_read : (p : Place) (d : DayStamp) → is_day_stamp d ≡ true → group_of (Some p) (day_text d) ≡ Ok (Expiry d)
-unfolding group_of day_of
+pub day_read : (p : Place) (d : DayStamp) → is_day_stamp d ≡ true → parse_group (Some p) (day_text d) ≡ Ok (Expiry d)
+unfolding parse_group parse_expiry
 day_read p d h =
     let t3 = and_parts _ _ h in
     let t2 = and_parts _ _ t3.0 in
@@ -344,28 +344,28 @@ day_read p d h =
 -- ---- a run whose end is not greater
 
 full_backwards : (before : Option Place) (state : List ℕ) (kind : Kind) (n last : ℕ) → length state ≡ 2 → are_letters state ≡ true → is_number n ≡ true → last ≤ 999 → last ≤ n →
-    group_of before (zone_text (record { state = state; kind = kind; number = n }) ++ 62 ∷ three_digits last) ≡ Err NoRange
-unfolding group_of run_of
+    parse_group before (zone_text (record { state = state; kind = kind; number = n }) ++ 62 ∷ three_digits last) ≡ Err NoRange
+unfolding parse_group parse_run
 full_backwards before [] kind n last two letters number le order = absurd (omega arith)
 full_backwards before (a ∷ []) kind n last two letters number le order = absurd (omega arith)
 full_backwards before (a ∷ b ∷ c ∷ cs) kind n last two letters number le order = absurd (omega arith)
 full_backwards before (a ∷ b ∷ []) kind n last two letters number le order = rw (full_read a b kind n letters number, three_read last le, le-ltb n last order) refl
 
-short_backwards : (p : Place) (n last : ℕ) → is_number n ≡ true → last ≤ 999 → last ≤ n → group_of (Some p) (three_digits n ++ 62 ∷ three_digits last) ≡ Err NoRange
-unfolding group_of run_of
+short_backwards : (p : Place) (n last : ℕ) → is_number n ≡ true → last ≤ 999 → last ≤ n → parse_group (Some p) (three_digits n ++ 62 ∷ three_digits last) ≡ Err NoRange
+unfolding parse_group parse_run
 short_backwards p n last number le order = rw (short_read p n number, three_read last le, le-ltb n last order) refl
 
-pub range_read : (before : Option Place) (text : List ℕ) → IsBackwards before text → group_of before text ≡ Err NoRange
+pub range_read : (before : Option Place) (text : List ℕ) → IsBackwards before text → parse_group before text ≡ Err NoRange
 range_read before text h = spelled before h.first.state h.first.kind h.first.number h.last h.place.1 (tests h).0 (tests h).1 h.range h.order h.spelled
   where
     tests : (h : IsBackwards before text) → (are_letters h.first.state ≡ true) × (is_number h.first.number ≡ true)
     tests h = and_parts (are_letters h.first.state) (is_number h.first.number) h.place.0
 
     spelled : (before : Option Place) (state : List ℕ) (kind : Kind) (n last : ℕ) → length state ≡ 2 → are_letters state ≡ true → is_number n ≡ true → last ≤ 999 → last ≤ n →
-        (text ≡ zone_text (record { state = state; kind = kind; number = n }) ++ 62 ∷ three_digits last) ⊎ (Follows before (record { state = state; kind = kind; number = n }) × (text ≡ three_digits n ++ 62 ∷ three_digits last)) → group_of before text ≡ Err NoRange
-    spelled before state kind n last two letters number le order (inl e) = ap (group_of before) e ∙ full_backwards before state kind n last two letters number le order
+        (text ≡ zone_text (record { state = state; kind = kind; number = n }) ++ 62 ∷ three_digits last) ⊎ (Follows before (record { state = state; kind = kind; number = n }) × (text ≡ three_digits n ++ 62 ∷ three_digits last)) → parse_group before text ≡ Err NoRange
+    spelled before state kind n last two letters number le order (inl e) = ap (parse_group before) e ∙ full_backwards before state kind n last two letters number le order
     spelled None state kind n last two letters number le order (inr e) = absurd e.0
-    spelled (Some p) state kind n last two letters number le order (inr e) = ap (group_of (Some p)) e.1 ∙ short_backwards p n last number le order
+    spelled (Some p) state kind n last two letters number le order (inr e) = ap (parse_group (Some p)) e.1 ∙ short_backwards p n last number le order
 
 refused_steps : {A : Type 0} (o : Option A) (f : A → Result Group Refused) → or_refused o f ≡ Err NoRange → (x : A) × (o ≡ Some x) × (f x ≡ Err NoRange)
 refused_steps None f h = absurd (no_range h)
@@ -377,37 +377,37 @@ refused_steps (Some x) f h = (x, refl, h)
 ok_no_range : (g : Group) → ◌≡◌ {A = Result Group Refused} (Ok g) (Err NoRange) → ⊥
 ok_no_range g e = cc e
 
-to_range : (a : Place) (b : ℕ) → run_to a b ≡ Err NoRange → b ≤ a.number
+to_range : (a : Place) (b : ℕ) → rising_run a b ≡ Err NoRange → b ≤ a.number
 to_range a b h = elim (cases_Bool (nat_lt a.number b)) [
   | inl e ↦ absurd (ok_no_range (Zones a b) (rw e at h))
   | inr e ↦ ltb-false _ _ e
 ]
 
-run_range : (before : Option Place) (text : List ℕ) → IsBefore before → is_run text ≡ true → run_of before text ≡ Err NoRange → IsBackwards before text
-unfolding run_of
+run_range : (before : Option Place) (text : List ℕ) → IsBefore before → is_run text ≡ true → parse_run before text ≡ Err NoRange → IsBackwards before text
+unfolding parse_run
 run_range before text good runs h =
     let a = refused_steps _ _ h in
     let b = refused_steps _ _ a.2 in
     let r : RunParts before text a.0 b.0 = run_parts before text a.0 b.0 good runs a.1 b.1 in
     record { first = a.0; last = b.0; place = (and_from _ _ r.coded.letters r.coded.number, r.coded.two); range = r.high; order = to_range a.0 b.0 b.2; spelled = coded_append before (take (length text - 4) text) (62 ∷ three_digits b.0) text a.0 r.coded.spelled r.parts }
 
-single_range : (before : Option Place) (text : List ℕ) → single_of before text ≡ Err NoRange → ⊥
-unfolding single_of
+single_range : (before : Option Place) (text : List ℕ) → parse_single before text ≡ Err NoRange → ⊥
+unfolding parse_single
 single_range before text h = let a = refused_steps (code_of before text) (λ p. Ok (Zones p p.number)) h in ok_no_range _ a.2
 
-day_range : (before : Option Place) (text : List ℕ) → day_of before text ≡ Err NoRange → ⊥
-unfolding day_of
+day_range : (before : Option Place) (text : List ℕ) → parse_expiry before text ≡ Err NoRange → ⊥
+unfolding parse_expiry
 day_range before text h =
     let a = refused_steps before (λ _. or_refused (parse_day_stamp text) (λ d. Ok (Expiry d))) h in
     let b = refused_steps (parse_day_stamp text) (λ d. Ok (Expiry d)) a.2 in
     ok_no_range _ b.2
 
-pub range_back : (before : Option Place) (text : List ℕ) → IsBefore before → group_of before text ≡ Err NoRange → IsBackwards before text
-unfolding group_of
+pub range_back : (before : Option Place) (text : List ℕ) → IsBefore before → parse_group before text ≡ Err NoRange → IsBackwards before text
+unfolding parse_group
 range_back before text good h =
     elim (cases_Bool (is_run text)) [
       | inl e ↦ run_range before text good e (rw e at h)
-      | inr e ↦ let h2 : cond (is_some (code_of before text)) (single_of before text) (day_of before text) ≡ Err NoRange = rw e at h in
+      | inr e ↦ let h2 : cond (is_some (code_of before text)) (parse_single before text) (parse_expiry before text) ≡ Err NoRange = rw e at h in
           elim (cases_Bool (is_some (code_of before text))) [
             | inl f ↦ absurd (single_range before text (rw f at h2))
             | inr f ↦ absurd (day_range before text (rw f at h2))
@@ -422,18 +422,18 @@ ok_no_code g e = cc e
 range_no_code : ◌≡◌ {A = Result Group Refused} (Err NoRange) (Err NoCode) → ⊥
 range_no_code e = cc e
 
-pub none_back : (before : Option Place) (text : List ℕ) → group_of before text ≡ Err NoCode → IsNoGroup before text
+pub none_back : (before : Option Place) (text : List ℕ) → parse_group before text ≡ Err NoCode → IsNoGroup before text
 none_back before text h = record {
   no_span = λ s is spells. ok_no_code (Zones s.first s.last) (sym (group_spelled before s text is spells) ∙ h);
   no_run = λ r. range_no_code (sym (range_read before text r) ∙ h);
-  no_expiry = λ d code day e. ok_no_code (Expiry d) (sym (day_taken before d code day) ∙ ap (group_of before) (sym e) ∙ h);
+  no_expiry = λ d code day e. ok_no_code (Expiry d) (sym (day_taken before d code day) ∙ ap (parse_group before) (sym e) ∙ h);
 }
   where
-    day_taken : (before : Option Place) (d : DayStamp) → HasCode before → is_day_stamp d ≡ true → group_of before (day_text d) ≡ Ok (Expiry d)
+    day_taken : (before : Option Place) (d : DayStamp) → HasCode before → is_day_stamp d ≡ true → parse_group before (day_text d) ≡ Ok (Expiry d)
     day_taken None d code day = absurd code
     day_taken (Some p) d code day = day_read p d day
 
-pub none_read : (before : Option Place) (text : List ℕ) → IsBefore before → IsNoGroup before text → (r : Result Group Refused) → group_of before text ≡ r → r ≡ Err NoCode
+pub none_read : (before : Option Place) (text : List ℕ) → IsBefore before → IsNoGroup before text → (r : Result Group Refused) → parse_group before text ≡ r → r ≡ Err NoCode
 none_read before text good none (Ok (Zones p n)) is = let g = group_back before text p n good is in absurd (none.no_span (record { first = p; last = n }) g.0 g.1)
 none_read before text good none (Ok (Expiry d)) is = let g = day_back before text d is in absurd (none.no_expiry d g.0 g.1 g.2)
 none_read before text good none (Err NoCode) is = refl

@@ -16,7 +16,7 @@ use Rattle.ugc_codes.specs.declared.read.UgcFault.{UgcFault}
 use Rattle.ugc_codes.specs.declared.read.UgcFault.TheVariants.{NotACode, BadRange, CutShort}
 use Rattle.ugc_codes.specs.declared.read.UgcRead.{UgcRead}
 use Rattle.ugc_codes.specs.declared.span.Span.{Span}
-use Rattle.ugc_codes.specs.Codes.{group_of}
+use Rattle.ugc_codes.specs.Codes.{parse_group}
 use Rattle.ugc_codes.specs.Faults.{Faults, FirstFault, HasNoHyphen, BeginsInNoGap}
 use Rattle.ugc_codes.specs.Reading.{is_none_yet, settle, fault_at, read_from, ugc_of}
 use Rattle.ugc_codes.specs.Grammar.{add_run, is_gap, IsSpan, run_end, Spells, HasCode, IsGap, AreGroups, last_code, add_spans, zones_of, IsUgc}
@@ -179,7 +179,7 @@ fault_taken before zones at rest CutShort good past h = cut_read before zones at
 fault_taken before zones at rest (NotACode place) good past (same, (own, more, whole, plain, none)) =
     ap (read_from before zones at [] at) whole
     ∙ bare_taken before zones at own (45 ∷ more) (subst (λ (t : List ℕ). HasCode before → BeginsInNoGap t) whole past) plain
-    ∙ rw (none_read before own good none (group_of before own) refl) (ap (λ (n : ℕ). Err (NotACode n)) (sym same))
+    ∙ rw (none_read before own good none (parse_group before own) refl) (ap (λ (n : ℕ). Err (NotACode n)) (sym same))
 fault_taken before zones at rest (BadRange place) good past (same, (own, more, whole, plain, back)) =
     ap (read_from before zones at [] at) whole
     ∙ bare_taken before zones at own (45 ∷ more) (subst (λ (t : List ℕ). HasCode before → BeginsInNoGap t) whole past) plain
@@ -276,13 +276,13 @@ here before zones start group bytes r ends =
       ends = subst (λ (n : ℕ). Ends r before zones n (group ++ bytes)) none ends;
     }
 
-refusal : (before : Option Place) (zones : List Place) (start : ℕ) (group bytes : List ℕ) (e : Refused) → IsBefore before → IsBare before group → group_of before group ≡ Err e → Ends (Err (fault_at start e)) before zones start (group ++ 45 ∷ bytes)
+refusal : (before : Option Place) (zones : List Place) (start : ℕ) (group bytes : List ℕ) (e : Refused) → IsBefore before → IsBare before group → parse_group before group ≡ Err e → Ends (Err (fault_at start e)) before zones start (group ++ 45 ∷ bytes)
 refusal before zones start group bytes NoCode good bare is = (λ code. past_more group (45 ∷ bytes) (bare.past code) refl, (refl, (group, bytes, refl, bare.no_hyphen, none_back before group is)))
 refusal before zones start group bytes NoRange good bare is = (λ code. past_more group (45 ∷ bytes) (bare.past code) refl, (refl, (group, bytes, refl, bare.no_hyphen, range_back before group good is)))
 
 settled : (before : Option Place) (zones : List Place) (start : ℕ) (group bytes : List ℕ) (at : ℕ) (r : Result UgcRead UgcFault) → IsBefore before → IsBare before group → start + length group ≡ at →
     ((before : Option Place) (zones : List Place) (start : ℕ) → IsBefore before → read_from before zones start [] start bytes ≡ r → Found before zones start [] bytes r) →
-    (g : Result Group Refused) → group_of before group ≡ g →
+    (g : Result Group Refused) → parse_group before group ≡ g →
     settle g
     (λ p n. read_from (Some p) (add_run zones p (n + 1 - p.number)) (at + 1) [] (at + 1) bytes)
     (λ d. Ok (record { zones = zones; expiry = d; used = at + 1 }))
@@ -361,7 +361,7 @@ found_from [] r before zones start group at good bare place h =
     here before zones start group [] r (subst (λ (x : Result UgcRead UgcFault). Ends x before zones start (group ++ [])) h (subst (λ (t : List ℕ). Ends (Err CutShort) before zones start t) whole ends))
 found_from (c ∷ bytes) r before zones start group at good bare place h =
     elim (eqb_tells c 45) [
-      | inl e ↦ subst (λ (k : ℕ). Found before zones start group (k ∷ bytes) r) (sym e.1) (settled before zones start group bytes at r good bare place (λ before zones start good h. found_from bytes r before zones start [] start good (none_bare before) (no_more start) h) (group_of before group) refl (rw e.0 at h))
+      | inl e ↦ subst (λ (k : ℕ). Found before zones start group (k ∷ bytes) r) (sym e.1) (settled before zones start group bytes at r good bare place (λ before zones start good h. found_from bytes r before zones start [] start good (none_bare before) (no_more start) h) (parse_group before group) refl (rw e.0 at h))
       | inr e ↦
           let rest : cond (is_gap c && is_none_yet group && is_some before) (read_from before zones (at + 1) [] (at + 1) bytes) (read_from before zones start (group ++ c ∷ []) (at + 1) bytes) ≡ r = rw e.0 at h in
           elim (cases_Bool (is_gap c && is_none_yet group && is_some before)) [

@@ -13,7 +13,7 @@ use Rattle.std.proofs.lemmas.List.{take_more}
 use Rattle.hazard_types.specs.Places.{Place, kind_rank, by_place}
 use Rattle.hazard_types.proofs.OrderLaws.{by_place_total}
 use Rattle.ugc_codes.specs.Grammar.{numbered, add, add_run}
-use Rattle.ugc_codes.specs.Rising.{is_behind_last, is_behind}
+use Rattle.ugc_codes.specs.Rising.{is_behind_last, comes_after_all}
 use Rattle.ugc_codes.proofs.Adding.{run_steps}
 
 -- a zone is behind each of these
@@ -35,17 +35,17 @@ all_at P (x ∷ xs) zero d h lt = h.0
 all_at P (x ∷ xs) (suc i) d h lt = all_at P xs i d h.1 (omega arith)
 
 -- the last of them is behind the others
-pub behind_all : (zones : List Place) (z : Place) → IsStrictlySortedBy by_place zones → is_behind zones z ≡ true → IsBehind zones z
+pub behind_all : (zones : List Place) (z : Place) → IsStrictlySortedBy by_place zones → comes_after_all zones z ≡ true → IsBehind zones z
 unfolding IsStrictlySortedBy
 behind_all [] z s h = tt
 behind_all (x ∷ []) z s h = (less_by (by_place x z) h, tt)
 behind_all (x ∷ y ∷ ys) z s h =
     let e : length (x ∷ y ∷ ys) - 1 ≡ suc (length (y ∷ ys) - 1) = omega arith in
-    let h' : is_behind (y ∷ ys) z ≡ true = subst (λ (k : ℕ). is_behind_last (slice_get (x ∷ y ∷ ys) k) z ≡ true) e h in
+    let h' : comes_after_all (y ∷ ys) z ≡ true = subst (λ (k : ℕ). is_behind_last (slice_get (x ∷ y ∷ ys) k) z ≡ true) e h in
     let rest = behind_all (y ∷ ys) z s.1 h' in
     (by_place_total.trans x y z s.0.0 rest.0, rest)
 
--- so it is put at the end
+-- so it is append_group at the end
 pub add_behind : (zones : List Place) (z : Place) → IsBehind zones z → add zones z ≡ zones ++ z ∷ []
 add_behind [] z h = refl
 add_behind (x ∷ xs) z h =
@@ -76,7 +76,7 @@ pub record Rises (start : List Place) (p : Place) (end n : ℕ) (zones : List Pl
   pub sorted : IsStrictlySortedBy by_place zones
   pub behind : IsBehind zones (numbered p n)
 
-pub rises_first : (start : List Place) (p : Place) (end : ℕ) → IsStrictlySortedBy by_place start → is_behind start p ≡ true → Rises start p end p.number start
+pub rises_first : (start : List Place) (p : Place) (end : ℕ) → IsStrictlySortedBy by_place start → comes_after_all start p ≡ true → Rises start p end p.number start
 rises_first start p end s h = record { whole = refl; sorted = s; behind = behind_all start p s h }
 
 pub rises_next : (start : List Place) (p : Place) (end n : ℕ) (zones more : List Place) → n < end → Rises start p end n zones → more ≡ zones ++ numbered p n ∷ [] → Rises start p end (n + 1) more

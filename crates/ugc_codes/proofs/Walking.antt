@@ -11,7 +11,7 @@ use Rattle.ugc_codes.specs.declared.read.Refused.{Refused}
 use Rattle.ugc_codes.specs.declared.read.UgcFault.{UgcFault}
 use Rattle.ugc_codes.specs.declared.read.UgcFault.TheVariants.{CutShort}
 use Rattle.std.proofs.Math.ListN.{drop_of_length-le}
-use Rattle.ugc_codes.specs.Codes.{group_of}
+use Rattle.ugc_codes.specs.Codes.{parse_group}
 use Rattle.ugc_codes.specs.Grammar.{add_run, is_gap}
 use Rattle.ugc_codes.specs.Reading.{is_none_yet, Closes, fault_at, settle, read_from, ugc_of}
 
@@ -43,7 +43,7 @@ begun : (s : List ℕ) (start at : ℕ) → start < at → at < length s → is_
 begun s start at lt in_s = some_yet _ (grind (arith, length-drop))
 
 pub walked_end : {bytes : List ℕ} {before : Option Place} {zones : List Place} {start at : ℕ} → Walked bytes before zones start at → at < length bytes → get_or bytes at 0 ≡ 45 →
-    settle (group_of before (slice_range bytes start at))
+    settle (parse_group before (slice_range bytes start at))
     (λ p n. read_from (Some p) (add_run zones p (n + 1 - p.number)) (at + 1) [] (at + 1) (drop (at + 1) bytes))
     (λ d. Ok (record { zones = zones; expiry = d; used = at + 1 }))
     (λ e. Err (fault_at start e)) ≡ ugc_of bytes
@@ -52,16 +52,16 @@ walked_end {bytes} {at = at} w lt byte =
     rw left at w.left
 
 pub walked_zones : {bytes : List ℕ} {before : Option Place} {zones : List Place} {start at : ℕ} → Walked bytes before zones start at → at < length bytes → get_or bytes at 0 ≡ 45 →
-    (p : Place) (n : ℕ) → group_of before (slice_range bytes start at) ≡ Ok (Zones p n) → (before' : Option Place) → before' ≡ Some p → (zones' : List Place) → zones' ≡ add_run zones p (n + 1 - p.number) →
+    (p : Place) (n : ℕ) → parse_group before (slice_range bytes start at) ≡ Ok (Zones p n) → (before' : Option Place) → before' ≡ Some p → (zones' : List Place) → zones' ≡ add_run zones p (n + 1 - p.number) →
     Walked bytes before' zones' (at + 1) (at + 1)
 walked_zones {bytes} {at = at} w lt byte p n is before' b zones' z = record { early = omega arith; left = rw (no_group bytes (at + 1), b, z) (rw is at (walked_end w lt byte)) }
 
 pub walked_expiry : {bytes : List ℕ} {before : Option Place} {zones : List Place} {start at : ℕ} → Walked bytes before zones start at → at < length bytes → get_or bytes at 0 ≡ 45 →
-    (d : DayStamp) → group_of before (slice_range bytes start at) ≡ Ok (Expiry d) → ugc_of bytes ≡ Ok (record { zones = zones; expiry = d; used = at + 1 })
+    (d : DayStamp) → parse_group before (slice_range bytes start at) ≡ Ok (Expiry d) → ugc_of bytes ≡ Ok (record { zones = zones; expiry = d; used = at + 1 })
 walked_expiry w lt byte d is = sym (rw is at (walked_end w lt byte))
 
 pub walked_refused : {bytes : List ℕ} {before : Option Place} {zones : List Place} {start at : ℕ} → Walked bytes before zones start at → at < length bytes → get_or bytes at 0 ≡ 45 →
-    (e : Refused) → group_of before (slice_range bytes start at) ≡ Err e → (f : UgcFault) → f ≡ fault_at start e → ugc_of bytes ≡ Err f
+    (e : Refused) → parse_group before (slice_range bytes start at) ≡ Err e → (f : UgcFault) → f ≡ fault_at start e → ugc_of bytes ≡ Err f
 walked_refused w lt byte e is f same = sym (rw is at (walked_end w lt byte)) ∙ ap (λ (x : UgcFault). Err x) (sym same)
 
 pub walked_gap : {bytes : List ℕ} {before : Option Place} {zones : List Place} {at : ℕ} → Walked bytes before zones at at → at < length bytes → get_or bytes at 0 ≢ 45 → is_gap (get_or bytes at 0) ≡ true → is_some before ≡ true →
@@ -94,7 +94,7 @@ walked_out {bytes} {at = at} w e =
     sym (rw none at w.left)
 
 pub walked_closed : {bytes : List ℕ} {before : Option Place} {zones : List Place} {start at : ℕ} → Walked bytes before zones start at → at < length bytes → get_or bytes at 0 ≡ 45 →
-    (o : Option DayStamp) (before' : Option Place) (zones' : List Place) → Closes (Ok o) start before zones before' zones' (group_of before (slice_range bytes start at)) → o ≡ None → Walked bytes before' zones' (at + 1) (at + 1)
+    (o : Option DayStamp) (before' : Option Place) (zones' : List Place) → Closes (Ok o) start before zones before' zones' (parse_group before (slice_range bytes start at)) → o ≡ None → Walked bytes before' zones' (at + 1) (at + 1)
 walked_closed w lt byte None before' zones' h e = walked_zones w lt byte h.0 h.1 h.2 before' h.3 zones' h.4
 walked_closed w lt byte (Some d) before' zones' h e = cc
 

@@ -18,7 +18,7 @@ use Rattle.ugc_codes.specs.declared.span.Span.{Span}
 use Rattle.ugc_codes.specs.Grammar.{numbered, add, add_run, IsSpan, run_end, Spells, HasCode, IsGap, AreGroups, last_code, add_spans, zones_of, IsUgc}
 use Rattle.hazard_types.specs.Digits.{is_day_stamp, three_digits, day_text}
 use Rattle.hazard_types.specs.Names.{kind_code, zone_text}
-use Rattle.ugc_codes.specs.Written.{are_alike, goes_on, single, pieces, groups_from, code_part, own_text, passes, put_text, put_column, lay, ugc_text}
+use Rattle.ugc_codes.specs.Written.{are_alike, continues_span, single, pieces, groups_from, code_part, own_text, passes, put_text, put_column, lay, ugc_text}
 
 -- ---- places that are alike
 
@@ -81,7 +81,7 @@ longer_is s p is place e =
 
 groups_are : (s : Span) (ps : List Place) → IsSpan s → ArePlaces ps → AllByRecursion IsSpan (groups_from s ps)
 groups_are s [] is places = pieces_are s is
-groups_are s (p ∷ ps) is places = elim (cases_Bool (goes_on s p)) [
+groups_are s (p ∷ ps) is places = elim (cases_Bool (continues_span s p)) [
   | inl e ↦ let h = and_parts (are_alike s.first p) (p.number == s.last + 1) e in rw e (groups_are _ ps (longer_is s p is places.0 (eqb-true _ _ h.1)) places.1)
   | inr e ↦ rw e (all_both IsSpan (pieces s) (groups_from (single p) ps) (pieces_are s is) (groups_are (single p) ps (single_is p places.0) places.1))
 ]
@@ -119,7 +119,7 @@ flat_append (x ∷ xs) ys = ap (λ (zs : List Place). span_places x ++ zs) (flat
 single_places : (p : Place) → span_places (single p) ≡ p ∷ []
 single_places p = let e : p.number + 1 - p.number ≡ 1 = omega arith in rw e refl
 
-longer_places : (s : Span) (p : Place) → IsSpan s → IsPlace p → goes_on s p ≡ true → span_places (record { first = s.first; last = p.number }) ≡ span_places s ++ p ∷ []
+longer_places : (s : Span) (p : Place) → IsSpan s → IsPlace p → continues_span s p ≡ true → span_places (record { first = s.first; last = p.number }) ≡ span_places s ++ p ∷ []
 longer_places s p is place h =
     let t = and_parts (are_alike s.first p) (p.number == s.last + 1) h in
     let next : p.number ≡ s.last + 1 = eqb-true _ _ t.1 in
@@ -132,7 +132,7 @@ longer_places s p is place h =
 
 groups_places : (s : Span) (ps : List Place) → IsSpan s → ArePlaces ps → flat_map span_places (groups_from s ps) ≡ span_places s ++ ps
 groups_places s [] is places = pieces_places s is ∙ sym (append-nil (span_places s))
-groups_places s (p ∷ ps) is places = elim (cases_Bool (goes_on s p)) [
+groups_places s (p ∷ ps) is places = elim (cases_Bool (continues_span s p)) [
   | inl e ↦ let h = and_parts (are_alike s.first p) (p.number == s.last + 1) e in
       rw e (groups_places _ ps (longer_is s p is places.0 (eqb-true _ _ h.1)) places.1
       ∙ ap (λ (zs : List Place). zs ++ ps) (longer_places s p is places.0 e) ∙ append_assoc (span_places s) (p ∷ []) ps)
@@ -272,7 +272,7 @@ pieces_some s = elim (cases_Bool (s.last == s.first.number + 1)) [ inl e ↦ rw 
 
 groups_some : (s : Span) (ps : List Place) → 0 < length (groups_from s ps)
 groups_some s [] = pieces_some s
-groups_some s (p ∷ ps) = elim (cases_Bool (goes_on s p)) [
+groups_some s (p ∷ ps) = elim (cases_Bool (continues_span s p)) [
   | inl e ↦ rw e (groups_some (record { first = s.first; last = p.number }) ps)
   | inr e ↦ rw e (let size : length (pieces s ++ groups_from (single p) ps) ≡ length (pieces s) + length (groups_from (single p) ps) = length-append (pieces s) (groups_from (single p) ps) in omega (arith, pieces_some s))
 ]

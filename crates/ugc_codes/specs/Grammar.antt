@@ -60,7 +60,7 @@ abbrev pub HasCode : Option Place → Type 0
 HasCode None = ⊥
 HasCode (Some p) = Unit {0}
 
--- a zone is put into its place, once
+-- a zone is append_group into its place, once
 abbrev pub add : List Place → Place → List Place
 add = insert_key by_place
 

@@ -12,7 +12,7 @@ use Rattle.ugc_codes.specs.declared.read.UgcRead.{UgcRead}
 use Rattle.hazard_types.specs.declared.or.Or.{Or}
 use Rattle.hazard_types.specs.declared.or.Or.TheVariants.{No, OutOfMemory}
 use Rattle.ugc_codes.specs.Grammar.{add_run, is_gap}
-use Rattle.ugc_codes.specs.Codes.{group_of}
+use Rattle.ugc_codes.specs.Codes.{parse_group}
 
 -- no byte of a group so far
 abbrev pub is_none_yet : List ℕ → Bool
@@ -46,7 +46,7 @@ abbrev pub read_from : Option Place → List Place → ℕ → List ℕ → ℕ 
 read_from before zones start group at [] = Err CutShort
 read_from before zones start group at (c ∷ bytes) =
     if c == 45 then
-    settle (group_of before group)
+    settle (parse_group before group)
     (λ p n. read_from (Some p) (add_run zones p (n + 1 - p.number)) (at + 1) [] (at + 1) bytes)
     (λ d. Ok (record { zones = zones; expiry = d; used = at + 1 }))
     (λ e. Err (fault_at start e))

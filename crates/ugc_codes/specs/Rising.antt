@@ -9,8 +9,8 @@ is_behind_last None z = true
 is_behind_last (Some last) z = is_lt (by_place last z)
 
 -- whether a zone is behind the last of these
-abbrev pub is_behind : List Place → Place → Bool
-is_behind zones z = is_behind_last (slice_get zones (length zones - 1)) z
+abbrev pub comes_after_all : List Place → Place → Bool
+comes_after_all zones z = is_behind_last (slice_get zones (length zones - 1)) z
 
 -- the zones that rose, or those of the set once one did not
 abbrev pub kept_in : Option (List Place) → List Place → List Place

@@ -16,8 +16,8 @@ abbrev pub EndsBelow : Span → Type 0
 EndsBelow s = s.last ≤ 999
 
 -- the place comes just behind the span
-abbrev pub goes_on : Span → Place → Bool
-goes_on s p = are_alike s.first p && (p.number == s.last + 1)
+abbrev pub continues_span : Span → Place → Bool
+continues_span s p = are_alike s.first p && (p.number == s.last + 1)
 
 -- a zone by itself
 abbrev pub single : Place → Span
@@ -30,7 +30,7 @@ pieces s = if s.last == s.first.number + 1 then single s.first ∷ single (numbe
 -- the groups of a span that may go on, and of the places behind it
 abbrev pub groups_from : Span → List Place → List Span
 groups_from s [] = pieces s
-groups_from s (p ∷ ps) = if goes_on s p then groups_from (record { first = s.first; last = p.number }) ps else pieces s ++ groups_from (single p) ps
+groups_from s (p ∷ ps) = if continues_span s p then groups_from (record { first = s.first; last = p.number }) ps else pieces s ++ groups_from (single p) ps
 
 -- the groups of zones in order
 abbrev pub groups : List Place → List Span
@@ -50,7 +50,7 @@ code_part before p = if is_short before p then three_digits p.number else zone_t
 abbrev pub own_text : Option Place → Span → List ℕ
 own_text before s = code_part before s.first ++ run_end s ++ 45 ∷ []
 
--- a group is put on the line while it stays within 66 columns
+-- a group is append_group on the line while it stays within 66 columns
 abbrev pub passes : ℕ → List ℕ → Bool
 passes column own = nat_lt 66 (column + length own)
 

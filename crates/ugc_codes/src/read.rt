@@ -1,15 +1,13 @@
 //! Reads UGC texts.
 ghost use Rattle.std.specs.Prelude.{◌≡◌, ◌⊎◌, ◌+◌, ◌*◌, ◌-◌, ◌≤◌, ◌<◌, ◌++◌, [], Some, None, Ok, IfOk, IfSome, length, IsTrue, List as Seq, ℕ};
 ghost use Rattle.std.specs.List.Sorted.{IsStrictlySortedBy};
-ghost use Rattle.hazard_types.specs.Calendar.{is_digit};
 ghost use Rattle.hazard_types.specs.Given.{Gives};
 ghost use Rattle.hazard_types.specs.Places.{Place, by_place};
 ghost use Rattle.hazard_types.specs.declared.calendar.DayStamp.{DayStamp as Expiry};
 ghost use Rattle.ugc_codes.specs.Grammar.{is_gap, IsUgc};
-ghost use Rattle.hazard_types.specs.Digits.{is_day_stamp, day_text};
+ghost use Rattle.hazard_types.specs.Digits.{is_day_stamp};
 ghost use Rattle.ugc_codes.specs.Faults.{FirstFault};
-ghost use Rattle.ugc_codes.specs.Codes.{EndsInRange, three_of, full_code, short_code, code_of, run_to, run_of, single_of, day_of, group_of};
-ghost use Rattle.hazard_types.specs.Names.{kind_at};
+ghost use Rattle.ugc_codes.specs.Codes.{EndsInRange, parse_three_digits, full_code, short_code, code_of, rising_run, parse_run, parse_single, parse_expiry, parse_group};
 ghost use Rattle.hazard_types.specs.Digits.{parse_day_stamp};
 ghost use Rattle.ugc_codes.specs.Reading.{ugc_of, fault_at, Closes};
 
@@ -59,10 +57,11 @@ pub enum Refused {
     NoRange,
 }
 
-/// Returns the number of three digits.
-#[tactic(auto, unfolding(crate::specs::Codes::three_of))]
-fn three_of(x: u8, y: u8, z: u8) -> Option<u16>
-    ensures value { result ≡ three_of x y z }
+/// Returns the number, 0 to 999, that three ASCII digits spell, `x` first, or `None` if one of the
+/// bytes is no digit.
+#[tactic(auto, unfolding(crate::specs::Codes::parse_three_digits))]
+fn parse_three_digits(x: u8, y: u8, z: u8) -> Option<u16>
+    ensures value { result ≡ parse_three_digits x y z }
     ensures range { IfSome result (λ n. n ≤ 999) }
 {
     if x.is_ascii_digit() && y.is_ascii_digit() && z.is_ascii_digit() {
@@ -72,23 +71,25 @@ fn three_of(x: u8, y: u8, z: u8) -> Option<u16>
     }
 }
 
-/// Parses a zone of six characters, as `MDZ003`.
+/// Returns the zone that six characters give, as `MDZ003`, or `None` if they are no zone.
 #[tactic(auto, unfolding(crate::specs::Codes::full_code))]
 fn full_code(text: &[u8; 6]) -> Option<Zone>
     ensures { result ≡ full_code text.now }
 {
     let kind = Kind::from_letter(text[2])?;
-    let number = three_of(text[3], text[4], text[5])?;
+    let number = parse_three_digits(text[3], text[4], text[5])?;
     Zone::new([text[0], text[1]], kind, number)
 }
 
-/// Parses three digits, which take state and kind from the zone before.
+/// Returns the zone with the state and kind of `before`, the first zone of the group before, and
+/// the number that three digits spell. It is `None` if `before` is `None` or the bytes are not 001
+/// to 999.
 #[tactic(auto, unfolding(crate::specs::Codes::short_code))]
 fn short_code(before: &Option<Zone>, text: &[u8; 3]) -> Option<Zone>
     ensures { result ≡ short_code before.now text.now }
 {
     let before = (*before)?;
-    let number = three_of(text[0], text[1], text[2])?;
+    let number = parse_three_digits(text[0], text[1], text[2])?;
     if 1 <= number && number <= 999 {
         Some(before.with_number(number))
     } else {
@@ -96,6 +97,9 @@ fn short_code(before: &Option<Zone>, text: &[u8; 3]) -> Option<Zone>
     }
 }
 
+/// Returns the zone that a text spells, either in six characters, as `MDZ003`, or in three digits
+/// with the state and kind of `before`, the first zone of the group before. It is `None` if the
+/// text is neither, or has three digits and `before` is `None`.
 fn code_of(before: &Option<Zone>, text: &[u8]) -> Option<Zone>
     ensures { result ≡ code_of before.now text.now }
 {
@@ -106,9 +110,11 @@ fn code_of(before: &Option<Zone>, text: &[u8]) -> Option<Zone>
     }
 }
 
-fn run_to(first: Zone, last: u16) -> Result<Group, Refused>
+/// Returns the group of the zones from `first` to the number `last`, with the state and kind of
+/// `first`, or errs with `NoRange` if `last` is not above the number of `first`.
+fn rising_run(first: Zone, last: u16) -> Result<Group, Refused>
     requires { last ≤ 999 }
-    ensures value { result ≡ run_to first last }
+    ensures value { result ≡ rising_run first last }
     ensures range { IfOk result EndsInRange }
 {
     if first.number() < last {
@@ -118,27 +124,31 @@ fn run_to(first: Zone, last: u16) -> Result<Group, Refused>
     }
 }
 
-/// Parses a run, as `MDZ003>006` or `003>006`.
-#[tactic(auto, unfolding(crate::specs::Codes::run_of))]
-fn run_of(before: &Option<Zone>, text: &[u8]) -> Result<Group, Refused>
+/// Returns the group of a run, as `MDZ003>006`, or `003>006` with the state and kind of `before`,
+/// the first zone of the group before. It errs with `NoCode` if the text has neither form, and with
+/// `NoRange` if its last number is not above its first. The text must have at least four bytes, and
+/// a `>` before its last three.
+#[tactic(auto, unfolding(crate::specs::Codes::parse_run))]
+fn parse_run(before: &Option<Zone>, text: &[u8]) -> Result<Group, Refused>
     requires { 4 ≤ length text.now }
-    ensures value { result ≡ run_of before.now text.now }
+    ensures value { result ≡ parse_run before.now text.now }
     ensures range { IfOk result EndsInRange }
 {
     let from = text.len() - 3;
     let Some(first) = code_of(before, &text[..from - 1]) else {
         return Err(Refused::NoCode);
     };
-    let Some(last) = three_of(text[from], text[from + 1], text[from + 2]) else {
+    let Some(last) = parse_three_digits(text[from], text[from + 1], text[from + 2]) else {
         return Err(Refused::NoCode);
     };
-    run_to(first, last)
+    rising_run(first, last)
 }
 
-/// Parses a group of one zone.
-#[tactic(auto, unfolding(crate::specs::Codes::single_of))]
-fn single_of(before: &Option<Zone>, text: &[u8]) -> Result<Group, Refused>
-    ensures value { result ≡ single_of before.now text.now }
+/// Returns the group of one zone, as `MDZ003`, or `003` with the state and kind of `before`, the
+/// first zone of the group before. It errs with `NoCode` if the text has neither form.
+#[tactic(auto, unfolding(crate::specs::Codes::parse_single))]
+fn parse_single(before: &Option<Zone>, text: &[u8]) -> Result<Group, Refused>
+    ensures value { result ≡ parse_single before.now text.now }
     ensures range { IfOk result EndsInRange }
 {
     match code_of(before, text) {
@@ -147,10 +157,12 @@ fn single_of(before: &Option<Zone>, text: &[u8]) -> Result<Group, Refused>
     }
 }
 
-/// Parses an expiry, which only comes after a zone.
-#[tactic(auto, unfolding(crate::specs::Codes::day_of))]
-fn day_of(before: &Option<Zone>, text: &[u8]) -> Result<Group, Refused>
-    ensures value { result ≡ day_of before.now text.now }
+/// Returns the group of an expiry, as `180600`: day of the month, hour and minute in UTC. It errs
+/// with `NoCode` if the text has another form, or if `before`, the first zone of the group before,
+/// is `None`.
+#[tactic(auto, unfolding(crate::specs::Codes::parse_expiry))]
+fn parse_expiry(before: &Option<Zone>, text: &[u8]) -> Result<Group, Refused>
+    ensures value { result ≡ parse_expiry before.now text.now }
     ensures range { IfOk result EndsInRange }
 {
     if before.is_none() {
@@ -162,22 +174,26 @@ fn day_of(before: &Option<Zone>, text: &[u8]) -> Result<Group, Refused>
     }
 }
 
-/// Parses the bytes before a hyphen. A `>` before the last three bytes makes them a run.
-#[tactic(auto, unfolding(crate::specs::Codes::group_of))]
-fn group_of(before: &Option<Zone>, text: &[u8]) -> Result<Group, Refused>
-    ensures value { result ≡ group_of before.now text.now }
+/// Returns the group, a zone, a run of zones or an expiry, that the bytes up to a hyphen spell. It
+/// errs with `NoRange` for a run whose last number is not above its first, and with `NoCode` for
+/// bytes of no such form or an expiry before any zone. `before` is the first zone of the group
+/// before, or `None` in the first group.
+#[tactic(auto, unfolding(crate::specs::Codes::parse_group))]
+fn parse_group(before: &Option<Zone>, text: &[u8]) -> Result<Group, Refused>
+    ensures value { result ≡ parse_group before.now text.now }
     ensures range { IfOk result EndsInRange }
 {
     let code = code_of(before, text);
     if text.len() >= 4 && text[text.len() - 4] == b'>' {
-        run_of(before, text)
+        parse_run(before, text)
     } else if code.is_some() {
-        single_of(before, text)
+        parse_single(before, text)
     } else {
-        day_of(before, text)
+        parse_expiry(before, text)
     }
 }
 
+/// Whether a byte may stand between two groups: a blank, a tab, a CR or an LF.
 fn is_gap(c: u8) -> bool
     ensures { result ≡ is_gap c }
 {
@@ -191,6 +207,8 @@ struct Named {
     before: Option<Zone>,
 }
 
+/// Returns the fault for a group that was refused. `at` is the byte where the group starts, counted
+/// from 0.
 fn fault_at(at: usize, refused: Refused) -> UgcFault
     ensures { result ≡ fault_at at refused }
 {
@@ -200,12 +218,18 @@ fn fault_at(at: usize, refused: Refused) -> UgcFault
     }
 }
 
-/// Takes the group `text`, which starts at byte `start`: adds its zones, or returns the expiry.
-fn close(named: &mut Named, text: &[u8], start: usize) -> Result<Option<DayStamp>, Or<UgcFault>>
+/// Adds the zones of the group `text` to those named so far and returns `None`, or returns the
+/// expiry if the group is one. It errs with the fault of the group, which starts at byte `start`,
+/// or if memory runs out.
+fn take_group(
+    named: &mut Named,
+    text: &[u8],
+    start: usize,
+) -> Result<Option<DayStamp>, Or<UgcFault>>
     ensures { Closes result start named.old.before named.old.zones named.new.before named.new.zones
-        (group_of named.old.before text.now) }
+        (parse_group named.old.before text.now) }
 {
-    let group = match group_of(&named.before, text) {
+    let group = match parse_group(&named.before, text) {
         Ok(group) => group,
         Err(refused) => return Err(Or::No(fault_at(start, refused))),
     };
@@ -219,6 +243,8 @@ fn close(named: &mut Named, text: &[u8], start: usize) -> Result<Option<DayStamp
     }
 }
 
+/// Returns the values of the UGC text that `bytes` starts with, or errs with the first fault, or if
+/// memory runs out.
 fn read(alloc: Global, bytes: &[u8]) -> Result<UgcRead, Or<UgcFault>>
     ensures exact { Gives result (ugc_of bytes.now) }
     ensures sorted { IfOk result (λ u. IsStrictlySortedBy by_place u.zones) }
@@ -231,7 +257,7 @@ fn read(alloc: Global, bytes: &[u8]) -> Result<UgcRead, Or<UgcFault>>
     let mut start = 0;
     for (at, c) in bytes.iter().enumerate() {
         if *c == b'-' {
-            match close(&mut named, &bytes[start..at], start)? {
+            match take_group(&mut named, &bytes[start..at], start)? {
                 None => start = at + 1,
                 Some(expiry) => {
                     let zones = named.zones.into_list(alloc)?;
@@ -249,9 +275,9 @@ fn read(alloc: Global, bytes: &[u8]) -> Result<UgcRead, Or<UgcFault>>
     Err(Or::No(UgcFault::CutShort))
 }
 
-/// Parses the UGC text that `bytes` starts with, whatever follows it. Groups end with a hyphen,
-/// after which blanks and line ends are skipped; a group without state and kind takes those of the
-/// group before.
+/// Returns the values of the UGC text that `bytes` starts with, whatever follows it. Groups end
+/// with a hyphen, after which blanks and line ends are skipped; a group without state and kind
+/// takes those of the group before.
 ///
 /// # Errors
 ///

@@ -1,13 +1,13 @@
 //! Writes UGC texts.
-ghost use Rattle.std.specs.Prelude.{◌≡◌, ◌+◌, ◌≤◌, ◌<◌, ◌++◌, ◌∷◌, [], List as Seq, ℕ, Some, IfOk, OnOk, IsTrue, length, if◌then◌else◌};
+ghost use Rattle.std.specs.Prelude.{◌≡◌, ◌+◌, ◌≤◌, ◌<◌, ◌++◌, ◌∷◌, [], List as Seq, ℕ, Some, IfOk, OnOk, IsTrue, length};
 ghost use Rattle.std.specs.List.{All};
 ghost use Rattle.std.specs.List.Sorted.{IsStrictlySortedBy};
 ghost use Rattle.hazard_types.specs.Places.{Place, by_place, IsPlace};
 ghost use Rattle.hazard_types.specs.declared.calendar.DayStamp.{DayStamp as Expiry};
 ghost use Rattle.ugc_codes.specs.Grammar.{run_end, IsUgc};
-ghost use Rattle.hazard_types.specs.Digits.{is_day_stamp, two_digits, three_digits, day_text};
-ghost use Rattle.hazard_types.specs.Names.{kind_code, zone_text};
-ghost use Rattle.ugc_codes.specs.Written.{EndsBelow, are_alike, goes_on, pieces, groups, code_part, own_text, put_text, put_column, ugc_text};
+ghost use Rattle.hazard_types.specs.Digits.{is_day_stamp, three_digits, day_text};
+ghost use Rattle.hazard_types.specs.Names.{zone_text};
+ghost use Rattle.ugc_codes.specs.Written.{EndsBelow, are_alike, continues_span, pieces, groups, code_part, own_text, put_text, put_column, ugc_text};
 
 use crate::span::Span;
 use hazard_types::{DayStamp, List, Oom, Text, Zone, day_text, three_digits, zone_text};
@@ -22,16 +22,18 @@ fn are_alike(a: &Zone, b: &Zone) -> bool
     x[0] == y[0] && x[1] == y[1] && a.kind().letter() == b.kind().letter()
 }
 
-/// Whether a zone is the next after those of a span.
-fn goes_on(span: &Span, zone: &Zone) -> bool
-    ensures value { result ≡ goes_on span.now zone.now }
+/// Whether a zone has the state and kind of a span, and the number one above the last number of the
+/// span.
+fn continues_span(span: &Span, zone: &Zone) -> bool
+    ensures value { result ≡ continues_span span.now zone.now }
     ensures place { IsPlace zone.now }
 {
     let number = zone.number();
     are_alike(&span.first, zone) && u32::from(number) == u32::from(span.last) + 1
 }
 
-/// Appends the groups of a span: two zones are two groups, else there is one.
+/// Appends the groups in which a span is written: two for a span of two zones, else one, which is a
+/// single zone or a run.
 fn push_pieces(groups: &mut List<Span>, span: &Span) -> Result<(), Oom>
     requires { span.now.last ≤ 999 }
     ensures value { OnOk result (groups.new ≡ groups.old ++ pieces span.now) }
@@ -57,7 +59,9 @@ fn push_pieces(groups: &mut List<Span>, span: &Span) -> Result<(), Oom>
     }
 }
 
-/// Returns the groups of zones, which are in order.
+/// Returns the groups in which zones are written: a span for each single zone, two for two zones in
+/// a row, and one for three and more. The zones must be in order by state, kind and number, each
+/// once, and at least one.
 fn groups_of(alloc: Global, zones: &[Zone]) -> Result<List<Span>, Oom>
     requires { 0 < length zones.now }
     ensures value { IfOk result (λ list. list ≡ groups zones.now) }
@@ -71,7 +75,7 @@ fn groups_of(alloc: Global, zones: &[Zone]) -> Result<List<Span>, Oom>
         last: first.number(),
     };
     for zone in &zones[1..] {
-        if goes_on(&span, zone) {
+        if continues_span(&span, zone) {
             span.last = zone.number();
         } else {
             push_pieces(&mut list, &span)?;
@@ -85,7 +89,8 @@ fn groups_of(alloc: Global, zones: &[Zone]) -> Result<List<Span>, Oom>
     Ok(list)
 }
 
-/// Appends a zone, or its number alone if state and kind are those of the group before.
+/// Appends a zone to `own` as `MDZ003`, or its number alone, as `003`, if it has the state and kind
+/// of `before`, the first zone of the group before. `before` is `None` in the first group.
 fn push_code(own: &mut Text, before: &Option<Zone>, zone: &Zone) -> Result<(), Oom>
     ensures value { OnOk result (own.new ≡ own.old ++ code_part before.now zone.now) }
     ensures short { OnOk result (length own.new ≤ length own.old + 6) }
@@ -102,7 +107,8 @@ fn push_code(own: &mut Text, before: &Option<Zone>, zone: &Zone) -> Result<(), O
     }
 }
 
-/// Appends `>` and the last number of a run; nothing for one zone.
+/// Appends `>` and the last number of a span to `own`, as `>006`, or nothing if the span is one
+/// zone.
 #[tactic(auto, unfolding(crate::specs::Grammar::run_end))]
 fn push_end(own: &mut Text, span: &Span) -> Result<(), Oom>
     requires { span.now.last ≤ 999 }
@@ -116,8 +122,9 @@ fn push_end(own: &mut Text, span: &Span) -> Result<(), Oom>
     own.extend(&[b'>', digits[0], digits[1], digits[2]])
 }
 
-/// Returns a group and its hyphen.
-fn own_of(alloc: Global, before: &Option<Zone>, span: &Span) -> Result<Text, Oom>
+/// Returns the text of a group with its hyphen, as `MDZ003>006-` or `028-`. `before` is the first
+/// zone of the group before it, if there is one.
+fn group_text(alloc: Global, before: &Option<Zone>, span: &Span) -> Result<Text, Oom>
     requires { span.now.last ≤ 999 }
     ensures value { IfOk result (λ own. own ≡ own_text before.now span.now) }
     ensures short { IfOk result (λ own. length own ≤ 11) }
@@ -134,9 +141,10 @@ fn own_of(alloc: Global, before: &Option<Zone>, span: &Span) -> Result<Text, Oom
 /// Source: docs/DECISIONS.md, "Reading of texts" (UGC width).
 const WIDTH: usize = 66;
 
-/// Appends a group, after an LF if the line would become longer than `WIDTH`. `column` is the
-/// length of the line before, and the length after is returned.
-fn put(out: &mut Text, column: usize, own: &[u8]) -> Result<usize, Oom>
+/// Appends the text of a group, `own`, and returns the length in characters of the line that it
+/// then ends. `column`, at most 66, is the length of the last line of `out` so far. If the group
+/// would make this line longer than 66 characters, an LF comes before the group.
+fn append_group(out: &mut Text, column: usize, own: &[u8]) -> Result<usize, Oom>
     requires column { column ≤ 66 }
     requires short { length own.now ≤ 11 }
     ensures text { OnOk result (out.new ≡ put_text out.old column own.now) }
@@ -154,6 +162,7 @@ fn put(out: &mut Text, column: usize, own: &[u8]) -> Result<usize, Oom>
     }
 }
 
+/// Returns the group of an expiry: day, hour and minute, in UTC, and a hyphen, as `180600-`.
 fn day_group(d: DayStamp) -> [u8; 7]
     requires { IsTrue (is_day_stamp d) }
     ensures { result ≡ day_text d ++ 45 ∷ [] }
@@ -163,6 +172,8 @@ fn day_group(d: DayStamp) -> [u8; 7]
     group
 }
 
+/// Returns the UGC text of zones and an expiry. The zones must be in order by state, kind and
+/// number, each once, and at least one.
 #[tactic(auto, unfolding(crate::specs::Written::ugc_text))]
 fn write(alloc: Global, zones: &[Zone], expiry: DayStamp) -> Result<Text, Oom>
     requires some { 0 < length zones.now }
@@ -175,17 +186,18 @@ fn write(alloc: Global, zones: &[Zone], expiry: DayStamp) -> Result<Text, Oom>
     let mut column = 0;
     let mut before = None;
     for span in groups.as_slice() {
-        let own = own_of(alloc, &before, span)?;
-        column = put(&mut text, column, own.as_slice())?;
+        let own = group_text(alloc, &before, span)?;
+        column = append_group(&mut text, column, own.as_slice())?;
         before = Some(span.first);
     }
-    put(&mut text, column, &day_group(expiry))?;
+    append_group(&mut text, column, &day_group(expiry))?;
     Ok(text)
 }
 
-/// Returns the one UGC text that the desk writes for `zones`, which are in order, each once, and
-/// `expiry`. Three and more zones in a row are a run, state and kind come where they change, and
-/// lines have at most 66 characters, with LF between them and none at the end.
+/// Returns the UGC text that the desk writes for `zones`, at least one, in order by state, kind and
+/// number, each once, and for `expiry`. Three and more zones in a row are written as a run, and
+/// state and kind only where they change. Lines have at most 66 characters, with LF between them
+/// and none at the end.
 ///
 /// # Errors
 ///

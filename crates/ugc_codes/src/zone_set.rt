@@ -3,7 +3,7 @@ ghost use Rattle.std.specs.Prelude.{◌≡◌, ◌+◌, ◌-◌, ◌≤◌, [], 
 ghost use Rattle.std.specs.List.Sorted.{IsStrictlySortedBy};
 ghost use Rattle.hazard_types.specs.Places.{by_place};
 ghost use Rattle.ugc_codes.specs.Grammar.{add_run};
-ghost use Rattle.ugc_codes.specs.Rising.{is_behind, kept_in, IsKept};
+ghost use Rattle.ugc_codes.specs.Rising.{comes_after_all, kept_in, IsKept};
 
 use hazard_types::{List, Oom, Zone};
 use std::alloc::Global;
@@ -30,9 +30,10 @@ impl Model for ZoneSet {
     ghost invariant = { λ z. IsKept z.rising z.mixed.keys };
 }
 
-/// Whether a zone comes after the last of `zones`, which are in order.
-fn is_behind(zones: &[Zone], zone: &Zone) -> bool
-    ensures { result ≡ is_behind zones.now zone.now }
+/// Whether a zone comes after the last of `zones` in order by state, kind and number; true if there
+/// are none. `zones` must be in that order.
+fn comes_after_all(zones: &[Zone], zone: &Zone) -> bool
+    ensures { result ≡ comes_after_all zones.now zone.now }
 {
     match zones.last() {
         Some(last) => last.cmp(zone).is_lt(),
@@ -40,11 +41,13 @@ fn is_behind(zones: &[Zone], zone: &Zone) -> bool
     }
 }
 
-/// Appends the zones from `first` to the number `last`; `first` comes after those in the list.
+/// Appends the zones with the state and kind of `first` from its number to `last`; none if `last`
+/// is less. The list must be in order by state, kind and number, and `first` come after all zones
+/// in it.
 fn push_run(rising: &mut List<Zone>, first: Zone, last: u16) -> Result<(), Oom>
     requires range { last ≤ 999 }
     requires sorted { IsStrictlySortedBy by_place rising.old }
-    requires behind { is_behind rising.old first ≡ true }
+    requires behind { comes_after_all rising.old first ≡ true }
     ensures run { OnOk result (rising.new ≡ add_run rising.old first (last + 1 - first.number)) }
     ensures sorted { IsStrictlySortedBy by_place rising.new }
 {
@@ -54,7 +57,8 @@ fn push_run(rising: &mut List<Zone>, first: Zone, last: u16) -> Result<(), Oom>
     Ok(())
 }
 
-/// Inserts the zones from `first` to the number `last`.
+/// Inserts the zones with the state and kind of `first` from its number to `last`; none if `last`
+/// is less.
 fn insert_run(mixed: &mut BTreeSet<Zone>, first: Zone, last: u16) -> Result<(), Oom>
     requires { last ≤ 999 }
     ensures { OnOk result
@@ -66,7 +70,8 @@ fn insert_run(mixed: &mut BTreeSet<Zone>, first: Zone, last: u16) -> Result<(), 
     Ok(())
 }
 
-/// Inserts zones, which are in order, into an empty set.
+/// Inserts `zones` into the set `mixed`, which must be empty. `zones` must be in order by state,
+/// kind and number, each once.
 fn insert_all(mixed: &mut BTreeSet<Zone>, zones: &[Zone]) -> Result<(), Oom>
     requires sorted { IsStrictlySortedBy by_place zones.now }
     requires empty { mixed.old.keys ≡ [] }
@@ -78,8 +83,10 @@ fn insert_all(mixed: &mut BTreeSet<Zone>, zones: &[Zone]) -> Result<(), Oom>
     Ok(())
 }
 
-/// Moves the zones of the list into the set, if there is a list.
-fn mix(rising: &mut Option<List<Zone>>, mixed: &mut BTreeSet<Zone>) -> Result<(), Oom>
+/// Moves the zones of the list `rising` into the tree `mixed`, which is empty until then, so that
+/// zones may be added in any order. Afterwards `rising` is `None`; if it was so before, nothing is
+/// done.
+fn move_into_tree(rising: &mut Option<List<Zone>>, mixed: &mut BTreeSet<Zone>) -> Result<(), Oom>
     requires { IsKept rising.old mixed.old.keys }
     ensures none { rising.new ≡ None }
     ensures all { OnOk result (mixed.new.keys ≡ kept_in rising.old mixed.old.keys) }
@@ -90,7 +97,7 @@ fn mix(rising: &mut Option<List<Zone>>, mixed: &mut BTreeSet<Zone>) -> Result<()
     }
 }
 
-/// Returns the zones of a set, in order.
+/// Returns the zones of a tree in order by state, kind and number, each once.
 fn list_of(alloc: Global, mixed: BTreeSet<Zone>) -> Result<List<Zone>, Oom>
     ensures value { IfOk result (λ list. list ≡ mixed.keys) }
     ensures sorted { IfOk result (λ list. IsStrictlySortedBy by_place list) }
@@ -113,9 +120,8 @@ impl ZoneSet {
         }
     }
 
-    /// Adds the zones from `first` to the number `last`; none if `last` is less than the number of
-    /// `first`. When it fails, some of the zones may be missing, also of those that were added
-    /// before.
+    /// Adds the zones with the state and kind of `first` from its number to `last`; none if `last`
+    /// is less. When it fails, some zones may be missing, also of those that were added before.
     ///
     /// # Errors
     ///
@@ -125,15 +131,15 @@ impl ZoneSet {
         ensures { OnOk result (self.new ≡ add_run self.old first (last + 1 - first.number)) }
     {
         if let Some(rising) = &mut self.rising {
-            if is_behind(rising.as_slice(), &first) {
+            if comes_after_all(rising.as_slice(), &first) {
                 return push_run(rising, first, last);
             }
         }
-        mix(&mut self.rising, &mut self.mixed)?;
+        move_into_tree(&mut self.rising, &mut self.mixed)?;
         insert_run(&mut self.mixed, first, last)
     }
 
-    /// Returns the zones, in order.
+    /// Returns the zones in order by state, kind and number, each once.
     ///
     /// # Errors
     ///

@@ -1,15 +1,16 @@
 //! Reads P-VTEC strings.
-ghost use Rattle.std.specs.Prelude.{◌≡◌, ◌&&◌, ◌||◌, ◌==◌, ◌∷◌, [], length, slice_index, codes, bytes_eq, true, Some, IfSome};
+ghost use Rattle.std.specs.Prelude.{◌≡◌, ◌&&◌, ◌==◌, length, true, Some, IfSome};
 ghost use Rattle.hazard_types.specs.declared.line.Vtec.{Vtec as Values};
 ghost use Rattle.vtec_string.specs.Columns.{separators, has_columns, office_at, phenomenon_at, number_at, values, vtec_of, IsVtec};
 
 use crate::columns::{ACTION, BEGIN, CLASS, END, LENGTH, NUMBER, OFFICE, PHENOMENON, SIGNIFICANCE};
 use hazard_types::{
-    Action, Class, Hazard, Minute, Phen, Sig, Vtec, are_name_bytes, parse_significance, time_in,
+    Action, Class, Hazard, Minute, Phen, Sig, Vtec, are_name_bytes, parse_significance, parse_time,
 };
 
-/// Returns the office, or `None` if a character is not A-Z or 0-9.
-fn office_of(text: &[u8]) -> Option<[u8; 4]>
+/// Returns the office identifier, as `KLWX`, or `None` if `text` is not four characters of A-Z and
+/// 0-9.
+fn parse_office(text: &[u8]) -> Option<[u8; 4]>
     ensures { result ≡ office_at text.now }
 {
     let [a, b, c, d] = text else {
@@ -22,17 +23,19 @@ fn office_of(text: &[u8]) -> Option<[u8; 4]>
     }
 }
 
-/// Returns the phenomenon, or `None` if a character is not A-Z.
-fn phenomenon_of(text: &[u8]) -> Option<Phen>
+/// Returns the phenomenon whose two letters are `text`, or `None` if one of them is not A-Z. `text`
+/// must be two bytes.
+fn parse_phenomenon(text: &[u8]) -> Option<Phen>
     requires { length text.now ≡ 2 }
     ensures { result ≡ phenomenon_at text.now }
 {
     Phen::new([text[0], text[1]])
 }
 
-/// Returns the event tracking number, or `None` if a character is not a digit.
+/// Returns the event tracking number that four digits are, 0 to 9,999, or `None` if `text` is not
+/// four digits.
 #[tactic(auto, using(crate::proofs::Numbers::number_hit, crate::proofs::Numbers::number_back), unfolding(crate::specs::Columns::number_at))]
-fn number_of(text: &[u8]) -> Option<u16>
+fn parse_number(text: &[u8]) -> Option<u16>
     ensures { result ≡ number_at text.now }
 {
     let [a, b, c, d] = text else {
@@ -47,7 +50,8 @@ fn number_of(text: &[u8]) -> Option<u16>
     }
 }
 
-/// Whether length and separators are those of a P-VTEC string.
+/// Whether there are 48 bytes, and the slashes, dots and hyphen are where a P-VTEC string has them.
+/// The other bytes are not read.
 #[tactic(auto, unfolding(crate::specs::Columns::has_columns))]
 fn has_columns(bytes: &[u8]) -> bool
     ensures value { result ≡ has_columns bytes.now }
@@ -63,7 +67,9 @@ fn has_columns(bytes: &[u8]) -> bool
     separators == *b"/......-/"
 }
 
-/// Returns the values of all columns, or `None` if one of them is missing.
+/// Returns the values of a P-VTEC string, put together from those of its columns, or `None` if one
+/// of the arguments is `None`. `etn` is the event tracking number, and a `begin` or `end` of
+/// `Some(None)` is a time of zeros.
 pub fn vtec_values(
     class: Option<Class>,
     action: Option<Action>,
@@ -90,6 +96,8 @@ pub fn vtec_values(
     })
 }
 
+/// Returns the values of a P-VTEC string, or `None` if `bytes` are not 48, a separator is wrong or
+/// a column has no value. A time of zeros is `None`.
 #[tactic(auto, unfolding(crate::specs::Columns::vtec_of))]
 fn values_of(bytes: &[u8]) -> Option<Vtec>
     ensures { result ≡ vtec_of bytes.now }
@@ -100,17 +108,18 @@ fn values_of(bytes: &[u8]) -> Option<Vtec>
     vtec_values(
         Class::from_code(&bytes[CLASS..CLASS + 1]),
         Action::from_code(&bytes[ACTION]),
-        office_of(&bytes[OFFICE]),
-        phenomenon_of(&bytes[PHENOMENON]),
+        parse_office(&bytes[OFFICE]),
+        parse_phenomenon(&bytes[PHENOMENON]),
         parse_significance(&bytes[SIGNIFICANCE..SIGNIFICANCE + 1]),
-        number_of(&bytes[NUMBER]),
-        time_in(&bytes[BEGIN]),
-        time_in(&bytes[END]),
+        parse_number(&bytes[NUMBER]),
+        parse_time(&bytes[BEGIN]),
+        parse_time(&bytes[END]),
     )
 }
 
-/// Parses a P-VTEC string: 48 bytes, from slash to slash, without a line end. `None` if `bytes` is
-/// not one. A time of zeros is `None`: a begin that has passed, an end until further notice.
+/// Returns the values of a P-VTEC string: 48 bytes, from slash to slash, without a line end. `None`
+/// if `bytes` is not one. A time of zeros is `None`: a begin that has passed, an end until further
+/// notice.
 ///
 /// Source: NWS Instruction 10-1703, P-VTEC.
 #[tactic(auto, using(crate::proofs::Laying::values_found, crate::proofs::Laying::vtec_hit))]

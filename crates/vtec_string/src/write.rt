@@ -8,8 +8,8 @@ ghost use Rattle.vtec_string.specs.Columns.{vtec_text, IsVtec};
 use crate::columns::{ACTION, BEGIN, CLASS, END, LENGTH, NUMBER, OFFICE, PHENOMENON, SIGNIFICANCE};
 use hazard_types::{Phen, Vtec, four_digits, time_text};
 
-/// Returns the two letters of a phenomenon, with what the proof needs of them.
-fn letters_of(phen: Phen) -> [u8; 2]
+/// Returns the two capital letters of a phenomenon.
+fn phenomenon_letters(phen: Phen) -> [u8; 2]
     ensures value { result ≡ phen }
     ensures letters { IsTrue (are_letters result) }
     ensures two { length result ≡ 2 }
@@ -17,7 +17,9 @@ fn letters_of(phen: Phen) -> [u8; 2]
     phen.letters()
 }
 
-/// Returns the template with the values in its columns.
+/// Returns the P-VTEC string of `v`, 48 bytes from slash to slash: a template with each value in
+/// its columns, and zeros for a time of `None`. The event tracking number must be at most 9999. The
+/// office is written as it is.
 #[tactic(auto, unfolding(crate::specs::Columns::vtec_text))]
 fn filled_template(v: &Vtec) -> [u8; LENGTH]
     requires { v.now.etn ≤ 9999 }
@@ -31,7 +33,7 @@ fn filled_template(v: &Vtec) -> [u8; LENGTH]
     text[BEGIN].copy_from_slice(&time_text(v.begin));
     text[NUMBER].copy_from_slice(&four_digits(v.etn));
     text[SIGNIFICANCE] = v.hazard.sig.letter();
-    text[PHENOMENON].copy_from_slice(&letters_of(v.hazard.phen));
+    text[PHENOMENON].copy_from_slice(&phenomenon_letters(v.hazard.phen));
     text[OFFICE].copy_from_slice(&v.office);
     text[ACTION].copy_from_slice(&v.action.code());
     text[CLASS] = v.class.letter();
@@ -39,7 +41,8 @@ fn filled_template(v: &Vtec) -> [u8; LENGTH]
 }
 
 /// Returns the P-VTEC string of `v`, 48 bytes from slash to slash, without a line end. A time of
-/// `None` is written as zeros, `000000T0000Z`.
+/// `None` is written as zeros, `000000T0000Z`. The office must be four characters of A-Z and 0-9,
+/// and the event tracking number at most 9999.
 ///
 /// Source: NWS Instruction 10-1703, P-VTEC.
 pub fn vtec_text(v: &Vtec) -> [u8; LENGTH]

@@ -6,6 +6,8 @@ use archive_report::Archive;
 use program_outside::host_io;
 use std::process::ExitCode;
 
+/// Runs the archive's report over the system's command line, standard input and output, and returns
+/// the exit code.
 fn main(rt: HostRuntime) -> ExitCode {
     host_io(&rt).run::<Archive>()
 }

@@ -13,7 +13,7 @@ use Rattle.warn_codes_c.specs.declared.asking.Question.TheVariants as question
 use Rattle.warn_codes_c.specs.declared.rows.RowFields.{RowFields}
 use Rattle.warn_codes_c.specs.Archive.{readings_of, products_of, numbers_from}
 use Rattle.warn_codes_c.specs.Handing.{fits, handed}
-use Rattle.warn_codes_c.specs.Rows.{steps_in, breach_row, gap_row, shown_row}
+use Rattle.warn_codes_c.specs.Rows.{steps_in, breach_row, gap_row, live_row}
 
 -- the question of a number
 abbrev pub question_of : ℕ → ℕ → Option Question
@@ -36,7 +36,7 @@ abbrev pub gap_rows : List Product → List RowFields
 gap_rows products = map gap_row (gaps_found products)
 
 abbrev pub shown_rows : ℕ → List Product → List RowFields
-shown_rows minute products = map shown_row (shown_at minute (rows_of products))
+shown_rows minute products = map live_row (shown_at minute (rows_of products))
 
 abbrev pub all_rows : ℕ → List ℕ → List Product → List RowFields
 all_rows minute numbers products = life_rows products ++ (breach_rows numbers products ++ (gap_rows products ++ shown_rows minute products))

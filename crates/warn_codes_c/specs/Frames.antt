@@ -18,16 +18,16 @@ use Rattle.warn_codes_c.specs.Fields.{vtec_fields, flood_fields, zone_fields}
 use Rattle.warn_codes_c.specs.Handing.{fits, placed}
 
 -- a text of at most six bytes, and zeros behind it; identifiers have four to six
-abbrev pub six_of : List ℕ → List ℕ
-six_of text = if nat_le (length text) 6 then text ++ replicate (6 - length text) 0 else replicate 6 0
+abbrev pub padded_to_six : List ℕ → List ℕ
+padded_to_six text = if nat_le (length text) 6 then text ++ replicate (6 - length text) 0 else replicate 6 0
 
 abbrev pub bbb_of : Option (List ℕ) → List ℕ
 bbb_of (Some letters) = letters
 bbb_of None = 0 ∷ 0 ∷ 0 ∷ []
 
-abbrev pub flood_or_none : Option Flood → FloodFields
-flood_or_none (Some h) = flood_fields h
-flood_or_none None = record { begin = 0; crest = 0; end = 0; location = replicate 5 0; severity = 0; cause = 0 ∷ 0 ∷ []; record_status = 0 ∷ 0 ∷ [] }
+abbrev pub flood_fields_or_zeros : Option Flood → FloodFields
+flood_fields_or_zeros (Some h) = flood_fields h
+flood_fields_or_zeros None = record { begin = 0; crest = 0; end = 0; location = replicate 5 0; severity = 0; cause = 0 ∷ 0 ∷ []; record_status = 0 ∷ 0 ∷ [] }
 
 -- 1 where there is one
 abbrev pub flag : {T : Type 0} → Option T → ℕ
@@ -35,7 +35,7 @@ flag (Some x) = 1
 flag None = 0
 
 abbrev pub line_fields : Pair → LineFields
-line_fields p = record { vtec = vtec_fields p.vtec; flood = flood_or_none p.flood; has_flood = flag p.flood }
+line_fields p = record { vtec = vtec_fields p.vtec; flood = flood_fields_or_zeros p.flood; has_flood = flag p.flood }
 
 abbrev pub segment_fields : FrameSegment → SegmentFields
 segment_fields s = record { zones = length s.zones; lines = length s.pairs; day = s.expiry.day; hour = s.expiry.hour; minute = s.expiry.minute }
@@ -59,7 +59,7 @@ frame_fields f rows = record {
   fault_line = 0;
   issue = f.issue;
   heading = f.heading.ttaaii;
-  identifier = six_of f.identifier;
+  identifier = padded_to_six f.identifier;
   office = f.heading.office;
   bbb = bbb_of f.heading.bbb;
   day = f.heading.day.day;
@@ -68,14 +68,14 @@ frame_fields f rows = record {
 }
 
 -- the status of a fault, and its line
-abbrev pub frame_fault : FrameFault → ℕ × ℕ
-frame_fault NoHeading = (20, 0)
-frame_fault NoIdentifier = (21, 0)
-frame_fault NoIssueTime = (22, 0)
-frame_fault IssueDisagrees = (23, 0)
-frame_fault (NoSegmentEnd line) = (24, line)
-frame_fault (BadUgc line) = (25, line)
-frame_fault (BadVtec line) = (26, line)
+abbrev pub frame_fault_status : FrameFault → ℕ × ℕ
+frame_fault_status NoHeading = (20, 0)
+frame_fault_status NoIdentifier = (21, 0)
+frame_fault_status NoIssueTime = (22, 0)
+frame_fault_status IssueDisagrees = (23, 0)
+frame_fault_status (NoSegmentEnd line) = (24, line)
+frame_fault_status (BadUgc line) = (25, line)
+frame_fault_status (BadVtec line) = (26, line)
 
 abbrev pub fault_fields : ℕ → FrameFields
 fault_fields line = record {
@@ -111,7 +111,7 @@ AreKept segments segments' zones zones' lines lines' = (segments' ≡ segments) 
 
 abbrev pub FillsFrame : Result Frame FrameFault → ℕ → List SegmentFields → List SegmentFields → List ZoneFields → List ZoneFields → List LineFields → List LineFields → FrameFields → Type 0
 FillsFrame (Ok f) status segments segments' zones zones' lines lines' out = FillsRows f status segments segments' zones zones' lines lines' out
-FillsFrame (Err x) status segments segments' zones zones' lines lines' out = (status ≡ (frame_fault x).0) × AreKept segments segments' zones zones' lines lines' × (out ≡ fault_fields (frame_fault x).1)
+FillsFrame (Err x) status segments segments' zones zones' lines lines' out = (status ≡ (frame_fault_status x).0) × AreKept segments segments' zones zones' lines lines' × (out ≡ fault_fields (frame_fault_status x).1)
 
 -- it was read, unless memory ran out, which changes nothing
 abbrev pub ReadsFrame : Result Frame FrameFault → ℕ → List SegmentFields → List SegmentFields → List ZoneFields → List ZoneFields → List LineFields → List LineFields → FrameFields → FrameFields → Type 0

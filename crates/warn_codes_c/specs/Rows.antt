@@ -15,7 +15,7 @@ use Rattle.product_decoder.specs.declared.types.Track.{Track}
 use Rattle.warn_codes_c.specs.declared.rows.EventFields.{EventFields}
 use Rattle.warn_codes_c.specs.declared.rows.RowFields.{RowFields}
 use Rattle.warn_codes_c.specs.Fields.{zone_fields}
-use Rattle.warn_codes_c.specs.Frames.{flood_or_none, flag}
+use Rattle.warn_codes_c.specs.Frames.{flood_fields_or_zeros, flag}
 
 abbrev pub event_fields : Event → EventFields
 event_fields e = record { number = e.etn; year = e.year; phenomenon = e.hazard.phen; significance = sig_letter e.hazard.sig }
@@ -26,7 +26,7 @@ blank_row = record {
   issue = 0;
   begin = 0;
   end = 0;
-  flood = flood_or_none None;
+  flood = flood_fields_or_zeros None;
   event = record { number = 0; year = 0; phenomenon = 0 ∷ 0 ∷ []; significance = 0 };
   zone = record { number = 0; state = 0 ∷ 0 ∷ []; kind = 0 };
   wanted = 0;
@@ -74,5 +74,5 @@ abbrev pub end_number : End → ℕ
 end_number (At m) = m
 end_number Ufn = 4294967295
 
-abbrev pub shown_row : Row → RowFields
-shown_row r = record blank_row { kind = 4; event = event_fields r.event; zone = zone_fields r.zone; begin = r.period.begin; end = end_number r.period.end; flood = flood_or_none r.flood; has_flood = flag r.flood }
+abbrev pub live_row : Row → RowFields
+live_row r = record blank_row { kind = 4; event = event_fields r.event; zone = zone_fields r.zone; begin = r.period.begin; end = end_number r.period.end; flood = flood_fields_or_zeros r.flood; has_flood = flag r.flood }

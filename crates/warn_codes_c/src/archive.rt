@@ -25,7 +25,7 @@ impl Archive {
     ghost use Rattle.product_decoder.specs.Decoded.{decode};
     ghost use Rattle.warn_codes_c.specs.Archive.{Adds, Same, Pushed, Ended, Finished, readings_of, products_of, numbers_from};
 
-    /// Returns an archive that has taken nothing.
+    /// Returns an archive without products, which follows the lines of this office and class.
     pub fn new(alloc: Global, office: [u8; 4], class: Class) -> Self
         ensures office { result.reader.office ≡ office }
         ensures class { result.reader.class ≡ class }
@@ -43,7 +43,8 @@ impl Archive {
         }
     }
 
-    /// Takes the text of a product. After 4,294,967,295 products it is out of memory.
+    /// Adds the text of one product to the archive. If its frame has a fault it is only counted.
+    /// Returns `Oom` if memory runs out or 4,294,967,295 products were counted before.
     fn add_text(&mut self, alloc: Global, text: &[u8]) -> Result<(), Oom>
         ensures adds { OnOk result (Adds self.old (decode text.now) self.new) }
         ensures feed { self.new.feed ≡ self.old.feed }
@@ -62,7 +63,8 @@ impl Archive {
         }
     }
 
-    /// Takes the next product of the feed, and returns whether there is one.
+    /// Takes the next whole product out of the feed and adds it to the archive, and returns whether
+    /// there was one.
     #[tactic(auto, using(crate::proofs::Taking::same_next, crate::proofs::Taking::same_end, crate::proofs::Taking::nothing_left))]
     fn take_next(&mut self, alloc: Global) -> Result<bool, Oom>
         ensures same { OnOk result (Same self.old self.new) }
@@ -78,7 +80,7 @@ impl Archive {
         }
     }
 
-    /// Takes each product that the feed has.
+    /// Adds each whole product that the feed has.
     #[tactic(auto, using(crate::proofs::Taking::same_none, crate::proofs::Taking::same_after, crate::proofs::Taking::smaller))]
     fn take_each(&mut self, alloc: Global) -> Result<(), Oom>
         ensures same { OnOk result (Same self.old self.new) }
@@ -91,7 +93,12 @@ impl Archive {
         Ok(())
     }
 
-    /// Takes a piece of the stream, and the products that it ends.
+    /// Adds the next piece of the stream, which may end anywhere, and each product that it makes
+    /// whole. The stream must not have been ended.
+    ///
+    /// # Errors
+    ///
+    /// Out of memory.
     #[tactic(auto, using(crate::proofs::Taking::pushed))]
     pub fn push(&mut self, alloc: Global, piece: &[u8]) -> Result<(), Oom>
         requires { self.old.feed.ended ≡ false }
@@ -101,7 +108,12 @@ impl Archive {
         self.take_each(alloc)
     }
 
-    /// Takes what is left at the end of the stream.
+    /// Ends the stream, and adds the product that its end makes whole, if there is one. No piece
+    /// may follow.
+    ///
+    /// # Errors
+    ///
+    /// Out of memory.
     #[tactic(auto, using(crate::proofs::Taking::ended))]
     pub fn end(&mut self, alloc: Global) -> Result<(), Oom>
         ensures { OnOk result (Ended self.old self.new) }
@@ -110,7 +122,12 @@ impl Archive {
         self.take_each(alloc)
     }
 
-    /// Takes what is left at the end of the stream. The next piece starts another stream.
+    /// Ends the stream, and adds the product that its end makes whole, if there is one. The next
+    /// piece starts another stream, whose products come after these.
+    ///
+    /// # Errors
+    ///
+    /// Out of memory.
     #[tactic(auto, using(crate::proofs::Taking::finished))]
     pub fn finish(&mut self, alloc: Global) -> Result<(), Oom>
         ensures { OnOk result (Finished self.old self.new) }
@@ -125,7 +142,12 @@ impl Archive {
     ghost use Rattle.std.specs.Prelude.{◌≡◌, IfOk};
     ghost use Rattle.warn_codes_c.specs.Archive.{readings_of, products_of, numbers_from};
 
-    /// Returns the products of a whole stream.
+    /// Returns the archive of a whole stream of products, which follows the lines of this office
+    /// and class.
+    ///
+    /// # Errors
+    ///
+    /// Out of memory.
     #[tactic(auto, using(crate::proofs::Taking::whole_products, crate::proofs::Taking::whole_numbers))]
     pub fn of(alloc: Global, office: [u8; 4], class: Class, stream: &[u8]) -> Result<Self, Oom>
         ensures products { IfOk result

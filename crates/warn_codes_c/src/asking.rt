@@ -4,7 +4,7 @@ ghost use Rattle.warn_codes_c.specs.Asking.{question_of, rows_for, life_rows, br
 
 use crate::archive::Archive;
 use crate::handing::hand_out;
-use crate::rows::{RowFields, put_breaches, put_gaps, put_lives, put_shown};
+use crate::rows::{RowFields, add_breaches, add_gaps, add_live_rows, add_lives};
 use crate::status::{BAD_ARGUMENT, NO_MEMORY, OK, TOO_SMALL};
 use hazard_types::{Class, List, Minute, Oom, is_office};
 use std::alloc::Global;
@@ -32,7 +32,8 @@ pub enum Question {
     All(Minute),
 }
 
-/// Returns the question of a number, if there is one. The minute counts for 4 and 5 alone.
+/// Returns the question with this number, 1 to 5 as in `AskedFields`, or `None` if there is none.
+/// `minute` counts for 4 and 5 alone, which are `None` if it is 52,596,000 or more.
 pub fn question_of(number: u32, minute: u32) -> Option<Question>
     ensures { result ≡ question_of number minute }
 {
@@ -52,29 +53,37 @@ pub fn question_of(number: u32, minute: u32) -> Option<Question>
     }
 }
 
-fn put_lives_of(alloc: Global, rows: &mut List<RowFields>, archive: &Archive) -> Result<(), Oom>
+/// Appends a row for each lawful line of an archive's products, by event, then zone, then in the
+/// order of the products.
+fn add_lives_of(alloc: Global, rows: &mut List<RowFields>, archive: &Archive) -> Result<(), Oom>
     ensures { OnOk result (rows.new ≡ rows.old ++ life_rows archive.now.reader.products) }
 {
     let lives = archive.reader.lives(alloc)?;
-    put_lives(rows, lives.as_slice())
+    add_lives(rows, lives.as_slice())
 }
 
-fn put_breaches_of(alloc: Global, rows: &mut List<RowFields>, archive: &Archive) -> Result<(), Oom>
+/// Appends a row for each line of an archive's products that breaks a rule of the lives of events,
+/// product by product.
+fn add_breaches_of(alloc: Global, rows: &mut List<RowFields>, archive: &Archive) -> Result<(), Oom>
     ensures { OnOk result
         (rows.new ≡ rows.old ++ breach_rows archive.now.numbers archive.now.reader.products) }
 {
     let breaches = archive.reader.breaches(alloc)?;
-    put_breaches(rows, archive.numbers.as_slice(), breaches.as_slice())
+    add_breaches(rows, archive.numbers.as_slice(), breaches.as_slice())
 }
 
-fn put_gaps_of(alloc: Global, rows: &mut List<RowFields>, archive: &Archive) -> Result<(), Oom>
+/// Appends a row for each gap in the event tracking numbers of an archive's products: for each
+/// event that was opened with another number than the next one of its hazard and year.
+fn add_gaps_of(alloc: Global, rows: &mut List<RowFields>, archive: &Archive) -> Result<(), Oom>
     ensures { OnOk result (rows.new ≡ rows.old ++ gap_rows archive.now.reader.products) }
 {
     let gaps = archive.reader.gaps(alloc)?;
-    put_gaps(rows, gaps.as_slice())
+    add_gaps(rows, gaps.as_slice())
 }
 
-fn put_shown_at(
+/// Appends a row for each event and zone that an archive's products leave live at a minute, by
+/// zone, then event.
+fn add_rows_live_at(
     alloc: Global,
     rows: &mut List<RowFields>,
     archive: &Archive,
@@ -84,11 +93,13 @@ fn put_shown_at(
         (rows.new ≡ rows.old ++ shown_rows minute.now archive.now.reader.products) }
 {
     let shown = archive.reader.shown(alloc, *minute)?;
-    put_shown(rows, shown.as_slice())
+    add_live_rows(rows, shown.as_slice())
 }
 
-/// Adds the rows that answer all questions.
-fn put_all(
+/// Appends the rows that answer all four questions about an archive's products, one after another:
+/// its lawful lines, its lines in breach, the gaps in its event tracking numbers, and the rows that
+/// are live at `minute`.
+fn add_all(
     alloc: Global,
     rows: &mut List<RowFields>,
     archive: &Archive,
@@ -97,14 +108,16 @@ fn put_all(
     ensures { OnOk result (rows.new
         ≡ rows.old ++ all_rows minute.now archive.now.numbers archive.now.reader.products) }
 {
-    put_lives_of(alloc, rows, archive)?;
-    put_breaches_of(alloc, rows, archive)?;
-    put_gaps_of(alloc, rows, archive)?;
-    put_shown_at(alloc, rows, archive, minute)
+    add_lives_of(alloc, rows, archive)?;
+    add_breaches_of(alloc, rows, archive)?;
+    add_gaps_of(alloc, rows, archive)?;
+    add_rows_live_at(alloc, rows, archive, minute)
 }
 
-/// Adds the rows that answer a question.
-fn put_rows(
+/// Appends the rows that answer a question about an archive's products: its lawful lines, its lines
+/// in breach, the gaps in its event tracking numbers, the rows live at the question's minute, or
+/// all of these one after another.
+fn add_rows(
     alloc: Global,
     rows: &mut List<RowFields>,
     archive: &Archive,
@@ -114,15 +127,21 @@ fn put_rows(
         ≡ rows.old ++ rows_for question.now archive.now.numbers archive.now.reader.products) }
 {
     match question {
-        Question::Lives => put_lives_of(alloc, rows, archive),
-        Question::Breaches => put_breaches_of(alloc, rows, archive),
-        Question::Gaps => put_gaps_of(alloc, rows, archive),
-        Question::Shown(minute) => put_shown_at(alloc, rows, archive, minute),
-        Question::All(minute) => put_all(alloc, rows, archive, minute),
+        Question::Lives => add_lives_of(alloc, rows, archive),
+        Question::Breaches => add_breaches_of(alloc, rows, archive),
+        Question::Gaps => add_gaps_of(alloc, rows, archive),
+        Question::Shown(minute) => add_rows_live_at(alloc, rows, archive, minute),
+        Question::All(minute) => add_all(alloc, rows, archive, minute),
     }
 }
 
-/// Returns the rows that answer a question.
+/// Returns the rows that answer a question about an archive's products: its lawful lines, its lines
+/// in breach, the gaps in its event tracking numbers, the rows that are live at the question's
+/// minute, or all of these one after another.
+///
+/// # Errors
+///
+/// Out of memory.
 pub fn rows_for(
     alloc: Global,
     archive: &Archive,
@@ -132,12 +151,12 @@ pub fn rows_for(
         (λ rows. rows ≡ rows_for question.now archive.now.numbers archive.now.reader.products) }
 {
     let mut rows = List::new(alloc);
-    put_rows(alloc, &mut rows, archive, question)?;
+    add_rows(alloc, &mut rows, archive, question)?;
     Ok(rows)
 }
 
 /// Writes the count of the rows to `needed`, and the rows to `out` if it has room for all of them.
-/// Returns the status.
+/// Returns `OK`, or `TOO_SMALL` if it has not, and then `out` is as before.
 pub fn fill_rows(rows: &[RowFields], out: &mut [RowFields], needed: &mut usize) -> u32
     ensures { Answers (Some rows.now) result out.old out.new needed.old needed.new }
 {
@@ -146,9 +165,10 @@ pub fn fill_rows(rows: &[RowFields], out: &mut [RowFields], needed: &mut usize) 
 }
 
 /// Reads the products of a whole stream, and writes the rows that answer a question to `rows`, and
-/// their count to `needed`. Returns `OK`; `TOO_SMALL` if `rows` has no room for all, and then only
-/// `needed` is written; `BAD_ARGUMENT` if office, class, question or minute is none, or
-/// `NO_MEMORY`, and then nothing is written.
+/// their count to `needed`. Returns `OK`, or `TOO_SMALL` if `rows` has no room for all, and then
+/// only `needed` is written. Nothing is written if it returns `NO_MEMORY`, or `BAD_ARGUMENT`, which
+/// is for an office that is not four characters of A-Z and 0-9, a class that is not O, T, E or X, a
+/// question that is not 1 to 5, and for the questions 4 and 5 a minute of 52,596,000 or more.
 #[unsafe(no_mangle)]
 pub extern "C" fn warn_codes_c_ask(
     alloc: Global,

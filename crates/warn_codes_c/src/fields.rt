@@ -51,7 +51,8 @@ pub struct ZoneFields {
     pub kind: u8,
 }
 
-/// Returns the number of a time: its minute, or 4,294,967,295 for zeros.
+/// Returns a time in minutes since 2000-01-01 00:00 UTC, or 4,294,967,295 for `None`, which is
+/// zeros in a VTEC text.
 pub fn time_number(time: &Option<Minute>) -> u32
     ensures { result ≡ time_number time.now }
 {
@@ -61,7 +62,7 @@ pub fn time_number(time: &Option<Minute>) -> u32
     }
 }
 
-/// Returns the fields of P-VTEC values.
+/// Returns P-VTEC values in the fixed layout for C.
 pub fn vtec_fields(v: &Vtec) -> VtecFields
     ensures { result ≡ vtec_fields v.now }
 {
@@ -77,7 +78,7 @@ pub fn vtec_fields(v: &Vtec) -> VtecFields
     }
 }
 
-/// Returns the fields of H-VTEC values.
+/// Returns H-VTEC values in the fixed layout for C.
 pub fn flood_fields(h: &Flood) -> FloodFields
     ensures { result ≡ flood_fields h.now }
 {
@@ -92,7 +93,7 @@ pub fn flood_fields(h: &Flood) -> FloodFields
     }
 }
 
-/// Returns the fields of a zone.
+/// Returns a zone in the fixed layout for C.
 pub fn zone_fields(zone: &Zone) -> ZoneFields
     ensures { result ≡ zone_fields zone.now }
 {

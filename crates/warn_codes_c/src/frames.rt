@@ -1,17 +1,17 @@
 //! Reads frames of products.
 ghost use Rattle.std.specs.Prelude.{◌≡◌, ◌++◌, map, flat_map, Ok, Err, IfOk, OnOk};
-ghost use Rattle.product_frame.specs.Frames.{frame_of};
+ghost use Rattle.product_frame.specs.Frames.{read_first_frame};
 ghost use Rattle.product_frame.specs.Frame.{FrameOf};
 ghost use Rattle.product_frame.specs.Faults.{FrameFaultOf};
 ghost use Rattle.product_frame.specs.declared.frame.Frame.{Frame as FrameValue};
 ghost use Rattle.product_frame.specs.declared.frame.FrameFault.{FrameFault as FaultValue};
 ghost use Rattle.warn_codes_c.specs.Handing.{placed};
-ghost use Rattle.warn_codes_c.specs.Frames.{six_of, bbb_of, flood_or_none, line_fields, segment_fields, zones_in, lines_in, frame_fault, fault_fields, frame_fields, rows_of, fit, ReadsFrame, IsToldFrame};
+ghost use Rattle.warn_codes_c.specs.Frames.{padded_to_six, bbb_of, flood_fields_or_zeros, line_fields, segment_fields, zones_in, lines_in, frame_fault_status, fault_fields, frame_fields, rows_of, fit, ReadsFrame, IsToldFrame};
 
 use crate::fields::{FloodFields, VtecFields, ZoneFields, flood_fields, vtec_fields};
 use crate::handing::place;
 use crate::status::{NO_MEMORY, OK, TOO_SMALL};
-use crate::ugc::put_zones;
+use crate::ugc::add_zones;
 use hazard_types::{Flood, List, Oom, Or};
 use product_frame::{Frame, FrameFault, FrameSegment, Pair, read_frame};
 use std::alloc::Global;
@@ -75,9 +75,9 @@ struct FrameRows {
     lines: List<LineFields>,
 }
 
-/// Returns the bytes with zeros after them, or zeros alone if there are more than six.
-fn six_of(text: &[u8]) -> [u8; 6]
-    ensures { result ≡ six_of text.now }
+/// Returns the bytes, filled up with zeros to six, or six zeros if there are more than six bytes.
+fn padded_to_six(text: &[u8]) -> [u8; 6]
+    ensures { result ≡ padded_to_six text.now }
 {
     let mut six = [0; 6];
     if text.len() <= 6 {
@@ -86,7 +86,7 @@ fn six_of(text: &[u8]) -> [u8; 6]
     six
 }
 
-/// Returns the letters of a BBB group, or zeros.
+/// Returns the three letters of a heading's BBB group, or three zeros if it has none.
 fn bbb_of(bbb: &Option<[u8; 3]>) -> [u8; 3]
     ensures { result ≡ bbb_of bbb.now }
 {
@@ -96,9 +96,9 @@ fn bbb_of(bbb: &Option<[u8; 3]>) -> [u8; 3]
     }
 }
 
-/// Returns the fields of H-VTEC values, or zeros.
-pub fn flood_or_none(flood: &Option<Flood>) -> FloodFields
-    ensures { result ≡ flood_or_none flood.now }
+/// Returns H-VTEC values in the fixed layout for C; for `None` all fields are zero.
+pub fn flood_fields_or_zeros(flood: &Option<Flood>) -> FloodFields
+    ensures { result ≡ flood_fields_or_zeros flood.now }
 {
     match flood {
         Some(flood) => flood_fields(flood),
@@ -114,16 +114,18 @@ pub fn flood_or_none(flood: &Option<Flood>) -> FloodFields
     }
 }
 
+/// Returns a P-VTEC line, with the H-VTEC line after it if there is one, in the fixed layout for C.
 fn line_fields(pair: &Pair) -> LineFields
     ensures { result ≡ line_fields pair.now }
 {
     LineFields {
         vtec: vtec_fields(&pair.vtec),
-        flood: flood_or_none(&pair.flood),
+        flood: flood_fields_or_zeros(&pair.flood),
         has_flood: u8::from(pair.flood.is_some()),
     }
 }
 
+/// Returns a segment's fields for C: how many zones and P-VTEC lines it has, and its expiry.
 fn segment_fields(segment: &FrameSegment) -> SegmentFields
     ensures { result ≡ segment_fields segment.now }
 {
@@ -136,7 +138,8 @@ fn segment_fields(segment: &FrameSegment) -> SegmentFields
     }
 }
 
-fn put_lines(rows: &mut List<LineFields>, pairs: &[Pair]) -> Result<(), Oom>
+/// Appends the P-VTEC lines of a segment to `rows`, each with its H-VTEC line, in order.
+fn add_lines(rows: &mut List<LineFields>, pairs: &[Pair]) -> Result<(), Oom>
     ensures { OnOk result (rows.new ≡ rows.old ++ map line_fields pairs.now) }
 {
     for pair in pairs {
@@ -145,7 +148,8 @@ fn put_lines(rows: &mut List<LineFields>, pairs: &[Pair]) -> Result<(), Oom>
     Ok(())
 }
 
-fn put_segments(rows: &mut List<SegmentFields>, segments: &[FrameSegment]) -> Result<(), Oom>
+/// Appends the fields of each segment to `rows`, in order.
+fn add_segments(rows: &mut List<SegmentFields>, segments: &[FrameSegment]) -> Result<(), Oom>
     ensures { OnOk result (rows.new ≡ rows.old ++ map segment_fields segments.now) }
 {
     for segment in segments {
@@ -154,34 +158,37 @@ fn put_segments(rows: &mut List<SegmentFields>, segments: &[FrameSegment]) -> Re
     Ok(())
 }
 
-fn put_all_zones(rows: &mut List<ZoneFields>, segments: &[FrameSegment]) -> Result<(), Oom>
+/// Appends the zones of all segments to `rows`, one segment after another.
+fn add_all_zones(rows: &mut List<ZoneFields>, segments: &[FrameSegment]) -> Result<(), Oom>
     ensures { OnOk result (rows.new ≡ rows.old ++ flat_map zones_in segments.now) }
 {
     for segment in segments {
-        put_zones(rows, segment.zones.as_slice())?;
+        add_zones(rows, segment.zones.as_slice())?;
     }
     Ok(())
 }
 
-fn put_all_lines(rows: &mut List<LineFields>, segments: &[FrameSegment]) -> Result<(), Oom>
+/// Appends the P-VTEC lines of all segments to `rows`, one segment after another.
+fn add_all_lines(rows: &mut List<LineFields>, segments: &[FrameSegment]) -> Result<(), Oom>
     ensures { OnOk result (rows.new ≡ rows.old ++ flat_map lines_in segments.now) }
 {
     for segment in segments {
-        put_lines(rows, segment.pairs.as_slice())?;
+        add_lines(rows, segment.pairs.as_slice())?;
     }
     Ok(())
 }
 
-/// Returns the rows of a frame.
+/// Returns the segments of a frame, and the zones and P-VTEC lines of all of them, in the fixed
+/// layout for C.
 fn rows_of(alloc: Global, frame: &Frame) -> Result<FrameRows, Oom>
     ensures { IfOk result (λ rows. rows ≡ rows_of frame.now) }
 {
     let mut segments = List::new(alloc);
-    put_segments(&mut segments, frame.segments.as_slice())?;
+    add_segments(&mut segments, frame.segments.as_slice())?;
     let mut zones = List::new(alloc);
-    put_all_zones(&mut zones, frame.segments.as_slice())?;
+    add_all_zones(&mut zones, frame.segments.as_slice())?;
     let mut lines = List::new(alloc);
-    put_all_lines(&mut lines, frame.segments.as_slice())?;
+    add_all_lines(&mut lines, frame.segments.as_slice())?;
     Ok(FrameRows {
         segments,
         zones,
@@ -189,7 +196,8 @@ fn rows_of(alloc: Global, frame: &Frame) -> Result<FrameRows, Oom>
     })
 }
 
-/// Returns the fields of a frame with these rows.
+/// Returns the fields of a frame for C; its counts of segments, zones and P-VTEC lines are those of
+/// `rows`.
 fn frame_fields(frame: &Frame, rows: &FrameRows) -> FrameFields
     ensures { result ≡ frame_fields frame.now rows.now }
 {
@@ -202,7 +210,7 @@ fn frame_fields(frame: &Frame, rows: &FrameRows) -> FrameFields
         fault_line: 0,
         issue: frame.issue.get(),
         heading,
-        identifier: six_of(frame.identifier.as_slice()),
+        identifier: padded_to_six(frame.identifier.as_slice()),
         office,
         bbb: bbb_of(&frame.heading.bbb),
         day: frame.heading.day.day,
@@ -211,9 +219,11 @@ fn frame_fields(frame: &Frame, rows: &FrameRows) -> FrameFields
     }
 }
 
-/// Returns the status of a fault, and its line, or 0 if it has none.
-pub fn frame_fault(fault: FrameFault) -> (u32, usize)
-    ensures { result ≡ frame_fault fault }
+/// Returns the status of a frame's fault, 20 for `NoHeading` to 26 for `BadVtec` in the order of
+/// `FrameFault`, and the 1-based line of the fault, counted from the heading line, or 0 if it is of
+/// no line.
+pub fn frame_fault_status(fault: FrameFault) -> (u32, usize)
+    ensures { result ≡ frame_fault_status fault }
 {
     match fault {
         FrameFault::NoHeading => (20, 0),
@@ -226,7 +236,8 @@ pub fn frame_fault(fault: FrameFault) -> (u32, usize)
     }
 }
 
-/// Returns the fields of a fault on a line.
+/// Returns the fields of a frame whose first fault is on the 1-based line `fault_line`, or of no
+/// line if that is 0; all other fields are zero.
 fn fault_fields(fault_line: usize) -> FrameFields
     ensures { result ≡ fault_fields fault_line }
 {
@@ -246,7 +257,8 @@ fn fault_fields(fault_line: usize) -> FrameFields
     }
 }
 
-/// Writes the rows to the start of each buffer, if all have room, and returns whether they have.
+/// Writes the segments, zones and lines of `rows` to the start of their buffers if each buffer has
+/// room for all of its own, and returns whether they have. If not, no buffer is changed.
 fn hand_out_rows(
     rows: &FrameRows,
     segments: &mut [SegmentFields],
@@ -269,8 +281,10 @@ fn hand_out_rows(
     fit
 }
 
-/// Writes what was read, the fields to `out` and the rows to the buffers if each has room for its
-/// own, and returns the status.
+/// Writes the result of reading a frame to the caller's buffers, and returns the status: `OK`,
+/// `TOO_SMALL`, `NO_MEMORY`, or 20 to 26 for the fault. The fields, or the line of the fault, go to
+/// `out`, and the segments, zones and lines to the three buffers. For `TOO_SMALL`, if one of the
+/// three has no room for its rows, none of the three is written, and for `NO_MEMORY` nothing is.
 fn fill_frame(
     alloc: Global,
     answer: Result<Frame, Or<FrameFault>>,
@@ -285,7 +299,7 @@ fn fill_frame(
     let frame = match answer {
         Ok(frame) => frame,
         Err(Or::No(fault)) => {
-            let (status, line) = frame_fault(fault);
+            let (status, line) = frame_fault_status(fault);
             *out = fault_fields(line);
             return status;
         }
@@ -329,7 +343,7 @@ pub extern "C" fn warn_codes_c_read_frame(
         ReadsFrame (Err x) result segments.old segments.new zones.old zones.new lines.old lines.new
         out.old out.new }
     // The same as one function of the bytes.
-    ensures exact { ReadsFrame (frame_of text.now) result segments.old segments.new zones.old
+    ensures exact { ReadsFrame (read_first_frame text.now) result segments.old segments.new zones.old
         zones.new lines.old lines.new out.old out.new }
 {
     let answer = read_frame(alloc, text);

@@ -10,8 +10,8 @@ pub fn place<T: Copy>(rows: &[T], out: &mut [T])
     out[..rows.len()].copy_from_slice(rows);
 }
 
-/// Writes the rows to the start of a buffer, if it has room for all of them, and returns whether it
-/// has.
+/// Writes the rows to the start of the buffer `out`, if it has room for all of them, and returns
+/// whether it has. If not, `out` is not changed.
 pub fn hand_out<T: Copy>(rows: &[T], out: &mut [T]) -> bool
     ensures fits { result ≡ fits rows.now out.old }
     ensures out { out.new ≡ handed rows.now out.old }

@@ -25,7 +25,8 @@ impl Model for Handle {
 }
 
 impl Handle {
-    /// Returns a handle that owns what the box owned.
+    /// Returns a handle that owns the archive whose box was taken apart into the pointer and the
+    /// allocator in `loose`.
     pub fn of(loose: Loose<Archive, Global>) -> Handle
         ensures { result.value ≡ Some loose.value }
     {
@@ -36,7 +37,8 @@ impl Handle {
         }
     }
 
-    /// Returns what a handle owns, which must be something, as a box taken apart.
+    /// Returns the pointer and the allocator of the box of the archive that the handle owns; they
+    /// own it from then on. The handle must own one.
     pub fn into_loose(self) -> Loose<Archive, Global>
         requires { IsSome self.value }
         ensures { Some result.value ≡ self.value }

@@ -17,7 +17,7 @@ impl<T, A: Allocator> Model for Loose<T, A> {
 }
 
 impl<T, A: Allocator> Loose<T, A> {
-    /// Takes a box apart.
+    /// Returns the pointer and the allocator of a box, which own what the box owned.
     pub fn of(value: Box<T, A>) -> Loose<T, A>
     where
         T: Drop,
@@ -27,7 +27,7 @@ impl<T, A: Allocator> Loose<T, A> {
         Loose { ptr, alloc }
     }
 
-    /// Puts the box together again.
+    /// Returns the box whose pointer and allocator these are.
     pub fn into_box(self) -> Box<T, A>
         ensures { result.value ≡ self.value }
     {

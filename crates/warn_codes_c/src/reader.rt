@@ -16,6 +16,7 @@ use hazard_types::{Class, is_office};
 use std::alloc::Global;
 use std::mem::replace;
 
+/// Returns the fields of a closed reader, which owns nothing.
 fn closed(alloc: Global) -> ReaderFields
     ensures { taken_in result ≡ None }
 {
@@ -25,6 +26,8 @@ fn closed(alloc: Global) -> ReaderFields
     }
 }
 
+/// Returns the fields of an open reader that owns this archive, whose stream must not have been
+/// ended.
 fn opened(archive: Box<Archive, Global>) -> ReaderFields
     requires { archive.value.feed.ended ≡ false }
     ensures { taken_in result ≡ Some archive.value }
@@ -35,9 +38,10 @@ fn opened(archive: Box<Archive, Global>) -> ReaderFields
     }
 }
 
-/// Returns what an open reader has taken, and closes the reader. `None` if it is closed.
+/// Returns the archive of an open reader, or `None` if the reader is closed. The reader is closed
+/// afterwards.
 #[tactic(auto, using(crate::proofs::OpenLemmas::is_some, crate::proofs::OpenLemmas::is_going_on))]
-fn taken_out(alloc: Global, reader: &mut ReaderFields) -> Option<Box<Archive, Global>>
+fn take_archive_out(alloc: Global, reader: &mut ReaderFields) -> Option<Box<Archive, Global>>
     ensures value { MatchOption result (taken_in reader.old ≡ None)
         (λ b. taken_in reader.old ≡ Some b.value) }
     ensures going { IfSome result (λ b. b.value.feed.ended ≡ false) }
@@ -63,8 +67,9 @@ fn opened_for(alloc: Global, office: [u8; 4], class: Class) -> Option<ReaderFiel
 }
 
 /// Opens a closed reader of the products of an office, of which it follows the lines of a class
-/// (the letter O, T, E or X). Returns `OK`; `BAD_ARGUMENT` if the reader is open, or the class or
-/// the office is none; or `NO_MEMORY`. If it does not return `OK`, the reader is as before.
+/// (the letter O, T, E or X). Returns `OK`, `NO_MEMORY`, or `BAD_ARGUMENT` if the reader is open,
+/// the class is none of these letters, or the office is not four characters of A-Z and 0-9. If it
+/// does not return `OK`, the reader is as before.
 #[unsafe(no_mangle)]
 pub extern "C" fn warn_codes_c_open(
     alloc: Global,
@@ -102,7 +107,7 @@ pub extern "C" fn warn_codes_c_take(alloc: Global, reader: &mut ReaderFields, pi
     ensures { GoesOn (λ a b. Pushed a piece.now b) (taken_in reader.old) result
         (taken_in reader.new) }
 {
-    let Some(mut archive) = taken_out(alloc, reader) else {
+    let Some(mut archive) = take_archive_out(alloc, reader) else {
         return BAD_ARGUMENT;
     };
     if archive.push(alloc, piece).is_err() {
@@ -118,7 +123,7 @@ pub extern "C" fn warn_codes_c_take(alloc: Global, reader: &mut ReaderFields, pi
 pub extern "C" fn warn_codes_c_end(alloc: Global, reader: &mut ReaderFields) -> u32
     ensures { GoesOn Finished (taken_in reader.old) result (taken_in reader.new) }
 {
-    let Some(mut archive) = taken_out(alloc, reader) else {
+    let Some(mut archive) = take_archive_out(alloc, reader) else {
         return BAD_ARGUMENT;
     };
     if archive.finish(alloc).is_err() {
@@ -149,7 +154,7 @@ pub extern "C" fn warn_codes_c_tell(
     let Some(question) = question_of(question, minute) else {
         return BAD_ARGUMENT;
     };
-    let Some(archive) = taken_out(alloc, reader) else {
+    let Some(archive) = take_archive_out(alloc, reader) else {
         return BAD_ARGUMENT;
     };
     let found = rows_for(alloc, &archive, &question);
@@ -166,6 +171,6 @@ pub extern "C" fn warn_codes_c_close(alloc: Global, reader: &mut ReaderFields) -
     ensures status { result ≡ 0 }
     ensures closed { taken_in reader.new ≡ None }
 {
-    drop(taken_out(alloc, reader));
+    drop(take_archive_out(alloc, reader));
     OK
 }

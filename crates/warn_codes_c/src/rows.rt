@@ -1,9 +1,9 @@
 //! Rows of what is found in the products of a stream.
-ghost use Rattle.std.specs.Prelude.{◌≡◌, ◌-◌, ◌++◌, slice_index, map, flat_map, OnOk, IfOk};
-ghost use Rattle.warn_codes_c.specs.Rows.{event_fields, blank_row, step_row, steps_in, breach_code, number_at, breach_row, gap_row, end_number, shown_row};
+ghost use Rattle.std.specs.Prelude.{◌≡◌, ◌-◌, ◌++◌, map, flat_map, OnOk};
+ghost use Rattle.warn_codes_c.specs.Rows.{event_fields, blank_row, step_row, steps_in, breach_code, number_at, breach_row, gap_row, end_number, live_row};
 
 use crate::fields::{FloodFields, ZoneFields, zone_fields};
-use crate::frames::flood_or_none;
+use crate::frames::flood_fields_or_zeros;
 use event_life::Breach;
 use hazard_types::{Action, End, Event, List, Minute, Oom, Row};
 use product_decoder::{Found, GapFound, Track};
@@ -46,6 +46,7 @@ pub struct RowFields {
     pub kind: u8,
 }
 
+/// Returns an event in the fixed layout for C.
 fn event_fields(event: &Event) -> EventFields
     ensures { result ≡ event_fields event.now }
 {
@@ -57,6 +58,7 @@ fn event_fields(event: &Event) -> EventFields
     }
 }
 
+/// Returns a row whose fields are all zero.
 fn blank_row() -> RowFields
     ensures { result ≡ blank_row }
 {
@@ -65,7 +67,7 @@ fn blank_row() -> RowFields
         issue: 0,
         begin: 0,
         end: 0,
-        flood: flood_or_none(&None),
+        flood: flood_fields_or_zeros(&None),
         event: EventFields {
             number: 0,
             year: 0,
@@ -85,7 +87,8 @@ fn blank_row() -> RowFields
     }
 }
 
-/// Returns the row of a lawful line.
+/// Returns the row (kind 1) of a lawful line on the event and zone of `life`. `step` is the line's
+/// action and the issue minute of its product.
 fn step_row(life: &Track, step: &(Action, Minute)) -> RowFields
     ensures { result ≡ step_row life.now step.now }
 {
@@ -98,7 +101,8 @@ fn step_row(life: &Track, step: &(Action, Minute)) -> RowFields
     row
 }
 
-fn put_steps(rows: &mut List<RowFields>, life: &Track) -> Result<(), Oom>
+/// Appends a row for each lawful line on one event in one zone, in the order of the products.
+fn add_steps(rows: &mut List<RowFields>, life: &Track) -> Result<(), Oom>
     ensures { OnOk result (rows.new ≡ rows.old ++ steps_in life.now) }
 {
     for step in life.steps.as_slice() {
@@ -107,16 +111,23 @@ fn put_steps(rows: &mut List<RowFields>, life: &Track) -> Result<(), Oom>
     Ok(())
 }
 
-pub fn put_lives(rows: &mut List<RowFields>, lives: &[Track]) -> Result<(), Oom>
+/// Appends a row for each lawful line of each life, one life after another. A life is an event in a
+/// zone.
+///
+/// # Errors
+///
+/// Out of memory.
+pub fn add_lives(rows: &mut List<RowFields>, lives: &[Track]) -> Result<(), Oom>
     ensures { OnOk result (rows.new ≡ rows.old ++ flat_map steps_in lives.now) }
 {
     for life in lives {
-        put_steps(rows, life)?;
+        add_steps(rows, life)?;
     }
     Ok(())
 }
 
-/// Returns the number of a breach.
+/// Returns the number of the rule that a line breaks: 1 for `Reopened` to 13 for `Twice`, in the
+/// order in which `Breach` has them.
 fn breach_code(breach: Breach) -> u8
     ensures { result ≡ breach_code breach }
 {
@@ -137,8 +148,9 @@ fn breach_code(breach: Breach) -> u8
     }
 }
 
-/// Returns the number among all products of one that has the 1-based number `product` among those
-/// without a fault; 0 if there is none.
+/// Returns a product's 1-based number among all products of the stream, or 0 if `product` is above
+/// the count of products without a fault. `product` is its 1-based number among those without a
+/// fault, and `numbers` has for each of these, in the order of the stream, the number among all.
 fn number_at(numbers: &[u32], product: u32) -> u32
     ensures { result ≡ number_at numbers.now product }
 {
@@ -146,6 +158,8 @@ fn number_at(numbers: &[u32], product: u32) -> u32
     if at < numbers.len() { numbers[at] } else { 0 }
 }
 
+/// Returns the row (kind 2) of a line that breaks a rule. `numbers` has for each product without a
+/// fault, in the order of the stream, its 1-based number among all products.
 fn breach_row(numbers: &[u32], found: &Found) -> RowFields
     ensures { result ≡ breach_row numbers.now found.now }
 {
@@ -158,7 +172,14 @@ fn breach_row(numbers: &[u32], found: &Found) -> RowFields
     row
 }
 
-pub fn put_breaches(
+/// Appends a row (kind 2) for each of `breaches`, the lines that break a rule, in their order.
+/// `numbers` has for each product without a fault, in the order of the stream, its 1-based number
+/// among all products.
+///
+/// # Errors
+///
+/// Out of memory.
+pub fn add_breaches(
     rows: &mut List<RowFields>,
     numbers: &[u32],
     breaches: &[Found],
@@ -171,6 +192,9 @@ pub fn put_breaches(
     Ok(())
 }
 
+/// Returns the row (kind 3) of a gap in the event tracking numbers: of an event that was opened
+/// with another number than the next one of its hazard and year. It has the event's number and the
+/// number wanted.
 fn gap_row(gap: &GapFound) -> RowFields
     ensures { result ≡ gap_row gap.now }
 {
@@ -186,7 +210,13 @@ fn gap_row(gap: &GapFound) -> RowFields
     row
 }
 
-pub fn put_gaps(rows: &mut List<RowFields>, gaps: &[GapFound]) -> Result<(), Oom>
+/// Appends a row (kind 3) for each of `gaps`, the gaps in the event tracking numbers, in their
+/// order.
+///
+/// # Errors
+///
+/// Out of memory.
+pub fn add_gaps(rows: &mut List<RowFields>, gaps: &[GapFound]) -> Result<(), Oom>
     ensures { OnOk result (rows.new ≡ rows.old ++ map gap_row gaps.now) }
 {
     for gap in gaps {
@@ -195,7 +225,7 @@ pub fn put_gaps(rows: &mut List<RowFields>, gaps: &[GapFound]) -> Result<(), Oom
     Ok(())
 }
 
-/// Returns the number of an end: its minute, or 4,294,967,295 for until further notice.
+/// Returns an end in minutes since 2000-01-01 00:00 UTC, or 4,294,967,295 for until further notice.
 fn end_number(end: &End) -> u32
     ensures { result ≡ end_number end.now }
 {
@@ -205,8 +235,10 @@ fn end_number(end: &End) -> u32
     }
 }
 
-fn shown_row(shown: &Row) -> RowFields
-    ensures { result ≡ shown_row shown.now }
+/// Returns the row (kind 4) of an event that is live in a zone, with the period and the H-VTEC
+/// values of `shown`, its row on the board.
+fn live_row(shown: &Row) -> RowFields
+    ensures { result ≡ live_row shown.now }
 {
     let mut row = blank_row();
     row.kind = 4;
@@ -214,16 +246,21 @@ fn shown_row(shown: &Row) -> RowFields
     row.zone = zone_fields(&shown.zone);
     row.begin = shown.period.begin.get();
     row.end = end_number(&shown.period.end);
-    row.flood = flood_or_none(&shown.flood);
+    row.flood = flood_fields_or_zeros(&shown.flood);
     row.has_flood = u8::from(shown.flood.is_some());
     row
 }
 
-pub fn put_shown(rows: &mut List<RowFields>, shown: &[Row]) -> Result<(), Oom>
-    ensures { OnOk result (rows.new ≡ rows.old ++ map shown_row shown.now) }
+/// Appends a row (kind 4) for each of `shown`, the rows that are live at a minute, in their order.
+///
+/// # Errors
+///
+/// Out of memory.
+pub fn add_live_rows(rows: &mut List<RowFields>, shown: &[Row]) -> Result<(), Oom>
+    ensures { OnOk result (rows.new ≡ rows.old ++ map live_row shown.now) }
 {
     for row in shown {
-        rows.push(shown_row(row))?;
+        rows.push(live_row(row))?;
     }
     Ok(())
 }

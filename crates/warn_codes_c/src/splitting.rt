@@ -19,7 +19,9 @@ pub struct SpanFields {
     pub to: usize,
 }
 
-fn put_spans(rows: &mut List<SpanFields>, spans: &[Span]) -> Result<(), Oom>
+/// Appends the spans, ranges of bytes of a text, to `rows` in the fixed layout for C, in their
+/// order.
+fn add_spans(rows: &mut List<SpanFields>, spans: &[Span]) -> Result<(), Oom>
     ensures { OnOk result (rows.new ≡ rows.old ++ map span_fields spans.now) }
 {
     for span in spans {
@@ -31,13 +33,13 @@ fn put_spans(rows: &mut List<SpanFields>, spans: &[Span]) -> Result<(), Oom>
     Ok(())
 }
 
-/// Returns where the products are.
+/// Returns the spans of bytes of the products in a text, in the order of the text.
 fn spans_in(alloc: Global, text: &[u8]) -> Result<List<SpanFields>, Oom>
     ensures { IfOk result (λ rows. rows ≡ map span_fields (spans_of text.now)) }
 {
     let spans = split_products(alloc, text)?;
     let mut rows = List::new(alloc);
-    put_spans(&mut rows, spans.as_slice())?;
+    add_spans(&mut rows, spans.as_slice())?;
     Ok(rows)
 }
 

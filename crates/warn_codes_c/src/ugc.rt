@@ -32,8 +32,12 @@ pub struct UgcFields {
     pub minute: u8,
 }
 
-/// Adds the fields of zones to `rows`.
-pub fn put_zones(rows: &mut List<ZoneFields>, zones: &[Zone]) -> Result<(), Oom>
+/// Appends each zone to `rows`, in the fixed layout for C.
+///
+/// # Errors
+///
+/// Out of memory.
+pub fn add_zones(rows: &mut List<ZoneFields>, zones: &[Zone]) -> Result<(), Oom>
     ensures { OnOk result (rows.new ≡ rows.old ++ map zone_fields zones.now) }
 {
     for zone in zones {
@@ -42,16 +46,17 @@ pub fn put_zones(rows: &mut List<ZoneFields>, zones: &[Zone]) -> Result<(), Oom>
     Ok(())
 }
 
-/// Returns the fields of zones.
+/// Returns the zones in the fixed layout for C, in the same order.
 fn zone_rows(alloc: Global, zones: &[Zone]) -> Result<List<ZoneFields>, Oom>
     ensures { IfOk result (λ rows. rows ≡ map zone_fields zones.now) }
 {
     let mut rows = List::new(alloc);
-    put_zones(&mut rows, zones)?;
+    add_zones(&mut rows, zones)?;
     Ok(rows)
 }
 
-/// Returns the fields of what was read.
+/// Returns the fields of a UGC text that was read without a fault: the count of its zones, its
+/// length and its expiry.
 fn ugc_fields(read: &UgcRead) -> UgcFields
     ensures { result ≡ ugc_fields read.now }
 {
@@ -65,7 +70,8 @@ fn ugc_fields(read: &UgcRead) -> UgcFields
     }
 }
 
-/// Returns the status of a fault, and the byte at which it starts, or 0 if the text is cut short.
+/// Returns the status of a UGC fault, 10 (not a code), 11 (bad range) or 12 (cut short), and the
+/// 0-based byte at which the faulty group starts, which is 0 if the text is cut short.
 fn fault_parts(fault: UgcFault) -> (u32, usize)
     ensures { result ≡ ugc_fault fault }
 {
@@ -76,7 +82,8 @@ fn fault_parts(fault: UgcFault) -> (u32, usize)
     }
 }
 
-/// Returns the fields of a fault that starts at a byte.
+/// Returns the fields of a UGC text whose first fault starts at the byte `fault_at`; all other
+/// fields are 0.
 fn fault_fields(fault_at: usize) -> UgcFields
     ensures { result ≡ fault_fields fault_at }
 {
@@ -90,8 +97,10 @@ fn fault_fields(fault_at: usize) -> UgcFields
     }
 }
 
-/// Writes what was read, the fields to `out` and the zones to the buffer if it has room for all of
-/// them, and returns the status.
+/// Writes the result of reading a UGC text to the caller's buffers, and returns the status: `OK`,
+/// `TOO_SMALL`, `NO_MEMORY`, or 10 to 12 for the fault. The fields, or the byte at which the fault
+/// starts, go to `out`, and the zones to `zones`. For `TOO_SMALL`, if `zones` has no room for all
+/// of them, `zones` is not written, and for `NO_MEMORY` nothing is.
 fn fill_ugc(
     alloc: Global,
     answer: Result<UgcRead, Or<UgcFault>>,

@@ -17,7 +17,9 @@ use hazard_types::{
 use hvtec_string::{hvtec_text, hvtec_values};
 use vtec_string::{vtec_text, vtec_values};
 
-/// Returns the time of a number, which is `Some(None)` for zeros, or `None` if no time has it.
+/// Returns the time that a number in a field for C stands for, or `None` if it stands for none. A
+/// number below 52,596,000 is minutes since 2000-01-01 00:00 UTC, and 4,294,967,295 stands for the
+/// zeros of a VTEC text, which are `Some(None)`.
 fn time_of(number: u32) -> Option<Option<Minute>>
     ensures { result ≡ time_of number }
 {
@@ -30,6 +32,7 @@ fn time_of(number: u32) -> Option<Option<Minute>>
     }
 }
 
+/// Returns the office, or `None` if it is not four characters of A-Z and 0-9.
 fn office_of(office: [u8; 4]) -> Option<[u8; 4]>
     ensures { result ≡ office_at office }
 {
@@ -40,13 +43,15 @@ fn office_of(office: [u8; 4]) -> Option<[u8; 4]>
     }
 }
 
+/// Returns the event tracking number, or `None` if it is above 9,999.
 fn number_of(number: u16) -> Option<u16>
     ensures { result ≡ number_at number }
 {
     if number <= 9999 { Some(number) } else { None }
 }
 
-/// Returns the values that have these fields, if there are any.
+/// Returns the P-VTEC values that have these fields, or `None` if one of the fields stands for no
+/// value.
 #[tactic(auto, unfolding(crate::specs::Writing::vtec_of))]
 fn vtec_of(fields: &VtecFields) -> Option<Vtec>
     ensures { result ≡ vtec_of fields.now }
@@ -64,6 +69,7 @@ fn vtec_of(fields: &VtecFields) -> Option<Vtec>
     )
 }
 
+/// Returns the NWS location identifier, or `None` if it is not five characters of A-Z and 0-9.
 fn location_of(location: [u8; 5]) -> Option<[u8; 5]>
     ensures { result ≡ location_at location }
 {
@@ -74,7 +80,8 @@ fn location_of(location: [u8; 5]) -> Option<[u8; 5]>
     }
 }
 
-/// Returns the values that have these fields, if there are any.
+/// Returns the H-VTEC values that have these fields, or `None` if one of the fields stands for no
+/// value.
 #[tactic(auto, unfolding(crate::specs::Writing::flood_of))]
 fn flood_of(fields: &FloodFields) -> Option<Flood>
     ensures { result ≡ flood_of fields.now }
@@ -91,7 +98,7 @@ fn flood_of(fields: &FloodFields) -> Option<Flood>
     )
 }
 
-/// Returns the text whose values have these fields, if there is one.
+/// Returns the one P-VTEC text whose values have these fields, or `None` if there is none.
 #[tactic(auto, using(crate::proofs::Fitting::vtec_back, crate::proofs::Fitting::vtec_hit, crate::proofs::Fitting::vtec_may))]
 fn vtec_text_of(fields: &VtecFields) -> Option<[u8; 48]>
     ensures found { IfSome result
@@ -105,7 +112,7 @@ fn vtec_text_of(fields: &VtecFields) -> Option<[u8; 48]>
     }
 }
 
-/// Returns the text whose values have these fields, if there is one.
+/// Returns the one H-VTEC text whose values have these fields, or `None` if there is none.
 #[tactic(auto, using(crate::proofs::Fitting::flood_back, crate::proofs::Fitting::flood_hit, crate::proofs::Fitting::flood_may))]
 fn hvtec_text_of(fields: &FloodFields) -> Option<[u8; 54]>
     ensures found { IfSome result

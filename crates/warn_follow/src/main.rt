@@ -6,6 +6,8 @@ use follow_links::{HostNetwork, run_program};
 use program_outside::host_io;
 use std::process::ExitCode;
 
+/// Runs the follower of an office's products over the system's command line, network and standard
+/// output, and returns the exit code.
 fn main(rt: HostRuntime) -> ExitCode {
     run_program(&mut host_io(&rt), &mut HostNetwork::new(&rt))
 }

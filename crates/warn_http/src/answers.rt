@@ -2,7 +2,7 @@
 ghost use Rattle.std.specs.Prelude.{◌≡◌, ◌++◌, IsTrue, IfOk, OnOk};
 ghost use Rattle.warn_http.specs.Answers.{is_status, status_of, phrase_of, closing, status_line, type_line, length_line, answer_text};
 
-use hazard_types::{List, Oom, Text, put_number};
+use hazard_types::{List, Oom, Text, write_number};
 use http::StatusCode;
 use office_types::Refusal;
 use std::alloc::Global;
@@ -14,7 +14,8 @@ pub enum BodyKind {
     Plain,
 }
 
-/// Whether the desk answers with this HTTP status.
+/// Whether the HTTP status is one with which the desk answers calls: 200, 500, 503 or that of a
+/// refusal.
 #[tactic(auto, unfolding(crate::specs::Answers::is_status))]
 pub fn is_status(status: u16) -> bool
     ensures { result ≡ is_status status }
@@ -25,7 +26,8 @@ pub fn is_status(status: u16) -> bool
     )
 }
 
-/// Returns the HTTP status of a refusal (docs/HTTP.md, "Statuses").
+/// Returns the HTTP status with which a call is answered that is refused for this reason
+/// (docs/HTTP.md, "Statuses").
 pub fn refusal_status(refusal: &Refusal) -> u16
     ensures value { result ≡ status_of refusal.now }
     ensures known { IsTrue (is_status result) }
@@ -34,7 +36,8 @@ pub fn refusal_status(refusal: &Refusal) -> u16
     status
 }
 
-/// The reason phrase that the crate `http` has for a status of the desk.
+/// Returns the reason phrase of an HTTP status, as `Not Found` for 404. The status must be one with
+/// which the desk answers.
 #[tactic(auto, unfolding(crate::specs::Answers::is_status, crate::specs::Answers::phrase_of))]
 fn phrase_of(status: u16) -> &'static str
     requires { IsTrue (is_status status) }
@@ -49,18 +52,20 @@ fn phrase_of(status: u16) -> &'static str
     }
 }
 
-fn put_status(alloc: Global, out: &mut Text, status: u16) -> Result<(), Oom>
+/// Appends the status line: `HTTP/1.1`, the status, its reason phrase, and CR LF.
+fn set_status(alloc: Global, out: &mut Text, status: u16) -> Result<(), Oom>
     requires { IsTrue (is_status status) }
     ensures { OnOk result (out.new ≡ out.old ++ status_line status) }
 {
     out.extend(b"HTTP/1.1 ")?;
-    put_number(alloc, out, usize::from(status))?;
+    write_number(alloc, out, usize::from(status))?;
     out.push(b' ')?;
     out.extend(phrase_of(status).as_bytes())?;
     out.extend(b"\r\n")
 }
 
-fn put_type(out: &mut Text, kind: BodyKind) -> Result<(), Oom>
+/// Appends the line of the field `Content-Type` for this kind of body, with CR LF.
+fn set_type(out: &mut Text, kind: BodyKind) -> Result<(), Oom>
     ensures { OnOk result (out.new ≡ out.old ++ type_line kind) }
 {
     match kind {
@@ -69,14 +74,17 @@ fn put_type(out: &mut Text, kind: BodyKind) -> Result<(), Oom>
     }
 }
 
-fn put_length(alloc: Global, out: &mut Text, count: usize) -> Result<(), Oom>
+/// Appends the line of the field `Content-Length` with `count` bytes, and CR LF.
+fn set_length(alloc: Global, out: &mut Text, count: usize) -> Result<(), Oom>
     ensures { OnOk result (out.new ≡ out.old ++ length_line count) }
 {
     out.extend(b"Content-Length: ")?;
-    put_number(alloc, out, count)?;
+    write_number(alloc, out, count)?;
     out.extend(b"\r\n")
 }
 
+/// Appends the line `Connection: close` and CR LF if `last`, that is if this is the last answer on
+/// the link.
 fn push_connection_close(out: &mut Text, last: bool) -> Result<(), Oom>
     ensures { OnOk result (out.new ≡ out.old ++ closing last) }
 {
@@ -86,8 +94,9 @@ fn push_connection_close(out: &mut Text, last: bool) -> Result<(), Oom>
     Ok(())
 }
 
-/// Returns the bytes of an answer, with `Connection: close` if `last`. `status` must be one of the
-/// desk's. Head lines end in CR LF (docs/HTTP.md, "Answers").
+/// Returns the bytes of an answer: its status line, its fields, an empty line and the body. It has
+/// `Connection: close` if `last`, the answer after which the link closes; `status` must be one with
+/// which the desk answers. Head lines end in CR LF (docs/HTTP.md, "Answers").
 ///
 /// # Errors
 ///
@@ -104,9 +113,9 @@ pub fn write_answer(
     ensures { IfOk result (λ text. text ≡ answer_text status kind body.now last) }
 {
     let mut text = List::new(alloc);
-    put_status(alloc, &mut text, status)?;
-    put_type(&mut text, kind)?;
-    put_length(alloc, &mut text, body.len())?;
+    set_status(alloc, &mut text, status)?;
+    set_type(&mut text, kind)?;
+    set_length(alloc, &mut text, body.len())?;
     push_connection_close(&mut text, last)?;
     text.extend(b"\r\n")?;
     text.extend(body.as_slice())?;

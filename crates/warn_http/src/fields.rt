@@ -21,6 +21,8 @@ pub enum Stated {
     Wrong,
 }
 
+/// Returns what a single `Content-Length` field states of the body's length, where `number` is what
+/// its value was read as. It is `Wrong` for no number, and `TooLong` for one over 65,536 bytes.
 fn length_by(number: Number) -> Stated
     ensures { result ≡ length_by number }
 {
@@ -31,7 +33,9 @@ fn length_by(number: Number) -> Stated
     }
 }
 
-/// Returns the body's length as the fields state it.
+/// Returns the body's length in bytes that the fields state by `Content-Length`. It is `Absent`
+/// without that field, `TooLong` above 65,536, and `Wrong` if the field is there twice or is no
+/// decimal number. `buf` has the bytes in which the spans of `fields` lie.
 #[tactic(auto, using(crate::proofs::Folding::stated_is))]
 pub fn stated_length(buf: &[u8], fields: &[HeaderSpan]) -> Stated
     requires { All (IsHeaderWithin (length buf.now)) fields.now }
@@ -49,8 +53,9 @@ pub fn stated_length(buf: &[u8], fields: &[HeaderSpan]) -> Stated
     found
 }
 
-/// Whether the link closes after a call of HTTP/1.`minor` with these fields (docs/HTTP.md, "When
-/// the link closes").
+/// Whether the link closes after a call of HTTP/1.`minor` with these fields: if `minor` is 0, or if
+/// a field `Connection` is `close`. `buf` has the bytes in which the spans of `fields` lie
+/// (docs/HTTP.md, "When the link closes").
 #[tactic(auto, unfolding(crate::specs::Heads::closes))]
 pub fn closes(minor: u8, buf: &[u8], fields: &[HeaderSpan]) -> bool
     requires { All (IsHeaderWithin (length buf.now)) fields.now }

@@ -27,8 +27,10 @@ pub const MOST_FIELDS: usize = 32;
 /// More fields than `MOST_BYTES` bytes can hold.
 const ROOM: usize = 2731;
 
-/// Parses a head of more than 32 fields again, with room for all of them, to tell if it is whole,
-/// incomplete or none.
+/// Returns what `bytes` start with, if it is a head of more than 32 fields, by reading it again
+/// with room for all of them. It is `TooLong` if the head is whole, or if it is not and `bytes` are
+/// 8,192; `More` if it is not and they are fewer; and `Bad` if it is no head. Memory is taken, and
+/// may run out.
 fn with_room(alloc: Global, bytes: &[u8]) -> Head
     requires small { length bytes.now ≤ 8192 }
     requires many { RequestOverflows 32 bytes.now }
@@ -51,8 +53,10 @@ fn with_room(alloc: Global, bytes: &[u8]) -> Head
     }
 }
 
-/// Reads the head at the start of `bytes`, at most 8,192 of them, and writes the spans of its
-/// fields to `headers`.
+/// Returns the head at the start of `bytes`, at most 8,192, and writes the spans of its fields to
+/// `headers`. It is `More` if the head is not yet whole, `Bad` if the bytes are no head, and
+/// `TooLong` for a whole head of more than 32 fields or for 8,192 bytes without a whole head.
+/// Memory is taken, and may run out, only for a head of more than 32 fields.
 pub fn read_head(alloc: Global, bytes: &[u8], headers: &mut [HeaderSpan; MOST_FIELDS]) -> Head
     requires { length bytes.now ≤ 8192 }
     ensures { Says bytes.now headers.new result }
@@ -66,8 +70,9 @@ pub fn read_head(alloc: Global, bytes: &[u8], headers: &mut [HeaderSpan; MOST_FI
     }
 }
 
-/// Returns the spans of a whole head within the limits, or `None`, and writes those of its fields
-/// to `headers`. Takes no memory; `bytes` are at most 8,192.
+/// Returns the spans of the head at the start of `bytes`, at most 8,192, and writes those of its
+/// fields to `headers`. It is `None` if the head is not yet whole, has more than 32 fields or is no
+/// head. Takes no memory.
 pub fn whole_head(bytes: &[u8], headers: &mut [HeaderSpan; MOST_FIELDS]) -> Option<RequestSpans>
     requires { length bytes.now ≤ 8192 }
     ensures some { IfSome result (λ spans. Says bytes.now headers.new (Head.Whole spans)) }

@@ -7,9 +7,10 @@ ghost use Rattle.httparse.specs.Grammar.{HasNoRequest};
 ghost use Rattle.warn_http.specs.Heads.{has_line_feed};
 ghost use Rattle.warn_http.specs.Calls.{Called, HasNoWholeCall, IsCall, IsRefused, IsUnfinished, IsCut, Stop, AreCalls, IsFinal, AreAlike};
 
-/// A call at the start of some bytes is the same call when more bytes follow, and a refused call
-/// stays refused. So where a stream's calls end for another reason than that its bytes end, they
-/// are the calls of every longer stream.
+/// If bytes start with a call, or with a call that is refused, they do so whatever bytes follow. So
+/// if the calls of a stream end by a refusal, by a call after which the link closes, or by the
+/// greatest number of calls, and not because the bytes end, every longer stream has the same calls
+/// and the same end.
 #[tactic(auto, using(crate::proofs::Streams::cut_stays, crate::proofs::Streams::calls_stay))]
 pub fn calls_stay()
     ensures call { (bytes more : List ℕ) (c : Called) → IsCall bytes c → IsCall (bytes ++ more) c }
@@ -21,8 +22,9 @@ pub fn calls_stay()
         IsFinal stop → AreCalls bytes calls stop → AreCalls (bytes ++ more) calls stop }
 {}
 
-/// The bytes of a stream have one list of calls and one end, except where a head is both bad and
-/// too long, or where they end within a target that no bytes can complete.
+/// The bytes of a stream determine the list of its calls, and how this list ends. Two ends can
+/// differ only where a head is both bad and too long, or where the bytes end within a target that
+/// no bytes can complete.
 pub fn calls_are_one()
     ensures call { (bytes : List ℕ) (c d : Called) → IsCall bytes c → IsCall bytes d → c ≡ d }
     ensures calls { (bytes : List ℕ) (calls others : List Called) (stop other : Stop) →
@@ -30,14 +32,16 @@ pub fn calls_are_one()
         (calls ≡ others) × AreAlike stop other }
 {}
 
-/// One more call is taken from the start of the rest.
+/// If bytes are cut into calls and a rest, and this rest starts with a call after which the link
+/// stays open, the bytes are also cut into the calls with this one added and the rest behind it.
 pub fn calls_go_on()
     ensures { (bytes : List ℕ) (calls : List Called) (rest : List ℕ) (c : Called) →
         IsCut bytes calls rest → IsCall rest c → c.last ≡ false →
         IsCut bytes (calls ++ c ∷ []) (drop c.used rest) }
 {}
 
-/// The routes that `Routes::aim_of` finds, with their numbers, are exactly the paths of the desk.
+/// A path has a route of `Routes::aim_of`, which asks for something, exactly if it is one of the
+/// desk's paths and asks for the same, with the same number.
 pub fn routes_are_paths()
     ensures path { (path : List ℕ) (aim : Aim) → aim_of path ≡ Some aim → IsPath path aim }
     ensures route { (path : List ℕ) (aim : Aim) → IsPath path aim → aim_of path ≡ Some aim }
@@ -49,15 +53,16 @@ pub fn unfinished_calls_are_short()
     ensures { (bytes : List ℕ) → IsUnfinished bytes → length bytes < 73728 }
 {}
 
-/// A head ends with a line feed. So bytes that start with no head start with none until the next
-/// line feed comes.
+/// A head ends with a line feed, so bytes that start with no whole head start with none as long as
+/// no line feed follows. Without bytes there is no head.
 pub fn heads_end_with_a_line_feed()
     ensures empty { HasNoRequest [] }
     ensures more { (bytes more : List ℕ) →
         HasNoRequest bytes → has_line_feed more ≡ false → HasNoRequest (bytes ++ more) }
 {}
 
-/// Bytes that are unfinished, or start with no head, hold no whole call.
+/// Bytes that are an unfinished call, or that start with no whole head, do not start with a whole
+/// call.
 pub fn unfinished_calls_are_not_whole()
     ensures unfinished { (bytes : List ℕ) → IsUnfinished bytes → HasNoWholeCall bytes }
     ensures headless { (bytes : List ℕ) → HasNoRequest bytes → HasNoWholeCall bytes }

@@ -22,5 +22,5 @@ pub use laws::{
     unfinished_calls_are_not_whole, unfinished_calls_are_short,
 };
 pub use outcomes::{Outcome, disk_fault_answer, kind_of, no_memory_answer, write_call_answer};
-pub use read::{Call, HttpRead, read_call, still_wants};
+pub use read::{Call, HttpRead, least_missing_bytes, read_call};
 pub use table::Routes;

@@ -35,7 +35,9 @@ pub fn kind_of(query: Query) -> BodyKind
 }
 
 impl Outcome {
-    /// Returns the HTTP status of the answer (docs/HTTP.md, "Statuses").
+    /// Returns the HTTP status of the answer: 200 for a reply and for what is shown, that of the
+    /// refusal for a refused call, 500 for a disk fault and 503 for out of memory (docs/HTTP.md,
+    /// "Statuses").
     #[tactic(auto, unfolding(crate::specs::Answers::is_status))]
     pub fn status(&self) -> u16
         ensures value { result ≡ outcome_status self.now }
@@ -49,7 +51,7 @@ impl Outcome {
         }
     }
 
-    /// Returns the kind of the answer's body.
+    /// Returns the kind of the answer's body: that of the query for what is shown, else JSON.
     pub fn kind(&self) -> BodyKind
         ensures { result ≡ outcome_kind self.now }
     {
@@ -61,8 +63,8 @@ impl Outcome {
     }
 }
 
-/// Returns the bytes of the answer to a call with this body, and with `Connection: close` if
-/// `last`.
+/// Returns the bytes of the answer to a call with this outcome and body. It has `Connection: close`
+/// if `last`, that is if the link closes after it.
 ///
 /// # Errors
 ///
@@ -92,23 +94,24 @@ const NO_MEMORY: &[u8] =
 const LAST_NO_MEMORY: &[u8] =
     b"HTTP/1.1 503 Service Unavailable\r\nContent-Type: application/json\r\nContent-Length: 32\r\nConnection: close\r\n\r\n{\"no\":\"M1\",\"rule\":\"OutOfMemory\"}";
 
-// The answer that closes the link if `last`, or else the one that leaves it open.
+/// Returns `closing`, an answer with `Connection: close`, if `last` is true, else `staying`, the
+/// same answer without it.
 fn fixed(last: bool, closing: &'static [u8], staying: &'static [u8]) -> &'static [u8]
     ensures { result.now ≡ (if last then closing.now else staying.now) }
 {
     if last { closing } else { staying }
 }
 
-/// Returns the fixed 500 answer for a disk fault, with `Connection: close` if `last`. Allocates
-/// nothing.
+/// Returns the bytes of the fixed answer 500 for a disk fault, with `Connection: close` if `last`.
+/// Takes no memory.
 pub fn disk_fault_answer(last: bool) -> &'static [u8]
     ensures { result.now ≡ call_answer Outcome.DiskFault disk_fault_json last }
 {
     fixed(last, LAST_DISK_FAULT, DISK_FAULT)
 }
 
-/// Returns the fixed 503 answer for out of memory, with `Connection: close` if `last`. Allocates
-/// nothing.
+/// Returns the bytes of the fixed answer 503 for out of memory, with `Connection: close` if `last`.
+/// Takes no memory.
 pub fn no_memory_answer(last: bool) -> &'static [u8]
     ensures { result.now ≡ call_answer Outcome.OutOfMemory no_memory_json last }
 {

@@ -37,6 +37,8 @@ pub enum HttpRead {
     OutOfMemory,
 }
 
+/// Returns the call that asks for `aim`. For a post it has the range of the body, which is `body`
+/// bytes after a head of `size` bytes, counted from the call's first byte.
 fn call_at(aim: Aim, size: usize, body: usize) -> Call
     requires { size + body < 2 ^ 64 }
     ensures { result ≡ call_at aim size body }
@@ -50,7 +52,8 @@ fn call_at(aim: Aim, size: usize, body: usize) -> Call
     }
 }
 
-/// The result for a whole head of `size` bytes, of `total` bytes in all, that asks for `wanted`.
+/// Returns the call of a whole head of `size` bytes that asks for `wanted`, or `More` if its body
+/// is not yet whole. `total` is how many bytes are there, counted from the call's first byte on.
 fn answer_to(size: usize, total: usize, wanted: &Wanted) -> HttpRead
     requires { size ≤ total }
     ensures { result ≡ answer_to size total (Ok wanted.now) }
@@ -65,7 +68,9 @@ fn answer_to(size: usize, total: usize, wanted: &Wanted) -> HttpRead
     }
 }
 
-/// The result for a whole head within the limits, of `total` bytes in all.
+/// Returns the call of a whole head within the limits, `More` if its body is not yet whole, or the
+/// refusal of the head. `front` has the bytes of the head, `headers` the spans of its fields, and
+/// `total` is how many bytes are there, counted from the call's first byte on.
 fn answer(
     routes: &Routes,
     front: &[u8],
@@ -84,7 +89,7 @@ fn answer(
     }
 }
 
-/// The first 8,192 bytes, in which a head must lie.
+/// Returns the first 8,192 bytes, in which a head must lie, or all if there are fewer.
 fn front_of(bytes: &[u8]) -> &[u8]
     ensures front { result.now ≡ take 8192 bytes.now }
     ensures size { length result.now ≤ 8192 }
@@ -97,12 +102,10 @@ fn front_of(bytes: &[u8]) -> &[u8]
     }
 }
 
-/// Reads the call at the start of a link's bytes: a head of at most 8,192 bytes and 32 fields, and
-/// a body of at most 65,536 bytes; a body sent with a GET is passed over. The first broken rule of
-/// F1 to F6 is returned in this order; if F1 and F2 both hold, either is. Memory is taken only for
-/// a head of more than 32 fields.
-///
-/// docs/HTTP.md, "Refused calls".
+/// Returns the call at the start of a link's bytes, `More` if it is not yet whole, or the refusal
+/// by the first of the rules F1 (`BadHead`) to F6 (`BodyTooLong`) that it breaks. If both F1 and F2
+/// are broken, it is either; a body sent with a GET is counted in the call but not used. Memory is
+/// taken only for a head of more than 32 fields.
 pub fn read_call(alloc: Global, routes: &Routes, bytes: &[u8]) -> HttpRead
     ensures { IsAnswer bytes.now result }
 {
@@ -117,8 +120,9 @@ pub fn read_call(alloc: Global, routes: &Routes, bytes: &[u8]) -> HttpRead
     }
 }
 
-/// The number of bytes that are missing after a head of `size` bytes, of `total` bytes in all, by
-/// the length that its fields state; 1 if none is known to be missing.
+/// Returns how many bytes of a body are missing, or 1 if none is known to be. The head has `size`
+/// bytes, `total` bytes are there, counted from the call's first byte on, and `stated` is what the
+/// head says of the body's length.
 fn missing(size: usize, total: usize, stated: Stated) -> usize
     requires { size ≤ total }
     ensures { result ≡ missing size total stated }
@@ -133,7 +137,9 @@ fn missing(size: usize, total: usize, stated: Stated) -> usize
     }
 }
 
-/// What the fields of a head state of the body's length.
+/// Returns what the fields of a whole head state of the body's length, in bytes. `front` has the
+/// bytes of the head, `spans` say how many fields it has, and `headers` are the spans of the
+/// fields.
 fn stated_by(front: &[u8], spans: &RequestSpans, headers: &[HeaderSpan]) -> Stated
     requires { IsRequestWithin front.now headers.now spans.now }
     ensures { result ≡ stated (pairs_at front.now headers.now spans.now) }
@@ -141,9 +147,10 @@ fn stated_by(front: &[u8], spans: &RequestSpans, headers: &[HeaderSpan]) -> Stat
     stated_length(front, &headers[..spans.headers])
 }
 
-/// Returns the least number of bytes that must follow before an unfinished call with a whole head
-/// can be whole, or `None` if its head is not whole or is over the limits. Takes no memory.
-pub fn still_wants(bytes: &[u8]) -> Option<usize>
+/// Returns the least number of bytes that must follow `bytes`, an unfinished call with a whole
+/// head, before the call can be whole; it is 1 if no byte is known to be missing. It is `None` if
+/// the head is not yet whole, is over the limits or is no head. Takes no memory.
+pub fn least_missing_bytes(bytes: &[u8]) -> Option<usize>
     ensures some { IfSome result (λ n. 0 < n) }
     ensures head { IsCutHead bytes.now → result ≡ None }
     ensures body { (cut : IsCutBody bytes.now) →

@@ -43,7 +43,9 @@ pub fn routes(alloc: Global) -> Result<Router<Place>, InsertError>
     Ok(router)
 }
 
-/// The number in `path` after `prefix`.
+/// Returns the decimal number below 2^32 that all bytes of `path` after `prefix` spell. It is
+/// `NoNumber` if `path` does not start with `prefix` or they are not one or more digits, and
+/// `TooLarge` from 2^32 on.
 #[tactic(auto, unfolding(crate::specs::Routes::number_behind))]
 fn number_behind(path: &[u8], prefix: &[u8]) -> Number
     ensures { result ≡ number_behind prefix.now path.now }
@@ -54,6 +56,7 @@ fn number_behind(path: &[u8], prefix: &[u8]) -> Number
     }
 }
 
+/// Returns the query of the path `/products/N`, or `None` if N is no decimal number below 2^32.
 fn product_at(path: &[u8]) -> Option<Aim>
     ensures { result ≡ aim_at Place.Product path.now }
 {
@@ -63,6 +66,8 @@ fn product_at(path: &[u8]) -> Option<Aim>
     }
 }
 
+/// Returns the query of the path `/products/after/N`, or `None` if N is no decimal number below
+/// 2^32.
 fn after_at(path: &[u8]) -> Option<Aim>
     ensures { result ≡ aim_at Place.After path.now }
 {
@@ -72,6 +77,7 @@ fn after_at(path: &[u8]) -> Option<Aim>
     }
 }
 
+/// Returns the query of the path `/drafts/N`, or `None` if N is no decimal number below 2^32.
 fn draft_at(path: &[u8]) -> Option<Aim>
     ensures { result ≡ aim_at Place.Draft path.now }
 {
@@ -81,6 +87,7 @@ fn draft_at(path: &[u8]) -> Option<Aim>
     }
 }
 
+/// Returns the query of the path `/preview/N`, or `None` if N is no decimal number below 2^32.
 fn preview_at(path: &[u8]) -> Option<Aim>
     ensures { result ≡ aim_at Place.Preview path.now }
 {
@@ -90,7 +97,8 @@ fn preview_at(path: &[u8]) -> Option<Aim>
     }
 }
 
-/// Returns what a path of this route asks for, or `None` if its number is none below 2^32.
+/// Returns what `path` asks for, where `place` is the route that it has in the table. It is `None`
+/// if the route has a number and the path does not end in a decimal number below 2^32.
 pub fn aim_at(place: Place, path: &[u8]) -> Option<Aim>
     ensures { result ≡ aim_at place path.now }
 {
@@ -104,7 +112,8 @@ pub fn aim_at(place: Place, path: &[u8]) -> Option<Aim>
     }
 }
 
-/// Returns the method of a call that asks for this.
+/// Returns the HTTP method that a call for `aim` must have: `POST` to post a request, `GET` to look
+/// at something.
 pub fn method_of(aim: Aim) -> &'static [u8]
     ensures { result.now ≡ method_of aim }
 {

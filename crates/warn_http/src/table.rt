@@ -27,8 +27,9 @@ impl Routes {
         }
     }
 
-    /// Returns what a request target asks for, or `None` if it has no route or its number is none
-    /// below 2^32. The whole target is the path.
+    /// Returns what the path of a call asks for, or `None` if it has no route, or has one with a
+    /// number and does not end in a decimal number below 2^32. The whole request target is taken as
+    /// the path.
     #[tactic(auto, unfolding(crate::specs::Routes::aim_of))]
     pub fn aim_of(&self, path: &str) -> Option<Aim>
         ensures { result ≡ aim_of path.now }

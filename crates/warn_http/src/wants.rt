@@ -1,7 +1,7 @@
 //! What the head of a call asks for, and the rules by which it is refused.
 ghost use Rattle.std.specs.Prelude.{◌≡◌, IsUtf8};
 ghost use Rattle.httparse.specs.Spans.{IsRequestWithin, span_bytes};
-ghost use Rattle.warn_http.specs.Wants.{sized, framed, with_method, judged, wanted};
+ghost use Rattle.warn_http.specs.Wants.{sized, framed, with_method, wanted};
 ghost use Rattle.warn_http.specs.Readings.{wanted_at};
 
 use crate::fields::{Stated, closes, stated_length};
@@ -20,6 +20,10 @@ pub struct Wanted {
     pub last: bool,
 }
 
+/// Returns what a call for `aim` wants, with the bytes of its body by the stated `length`, or its
+/// refusal by that length. This is `NoLength` for a POST that states none, `BodyTooLong` above
+/// 65,536 bytes, and `BadHead` for a wrong one; a GET that states none has no body. `last` is
+/// whether the link closes after the call.
 fn sized(length: Stated, aim: Aim, last: bool) -> Result<Wanted, Refusal>
     ensures { result ≡ sized length aim last }
 {
@@ -35,6 +39,10 @@ fn sized(length: Stated, aim: Aim, last: bool) -> Result<Wanted, Refusal>
     Ok(Wanted { aim, body, last })
 }
 
+/// Returns what a call for `aim` wants, with the bytes of its body by the stated `length`, or its
+/// refusal. The refusal is `NoLength` if `encoded`, that is if the call has a field
+/// `Transfer-Encoding`; else it is by the length: `NoLength`, `BodyTooLong` or `BadHead`. `last` is
+/// whether the link closes after the call.
 fn framed(encoded: bool, length: Stated, aim: Aim, last: bool) -> Result<Wanted, Refusal>
     ensures { result ≡ framed encoded length aim last }
 {
@@ -45,6 +53,10 @@ fn framed(encoded: bool, length: Stated, aim: Aim, last: bool) -> Result<Wanted,
     }
 }
 
+/// Returns what a call wants, or its refusal: `NoRoute` if `aim` is `None`, `WrongMethod` if
+/// `method` is not the one for `aim`, else one by the length of the body. `encoded` is whether the
+/// call has a field `Transfer-Encoding`, and `length` is what it states of the body's length.
+/// `last` is whether the link closes after the call.
 fn with_method(
     method: &[u8],
     encoded: bool,
@@ -64,8 +76,10 @@ fn with_method(
     }
 }
 
-/// Returns what a whole head within the limits asks for, or the first rule that it breaks: F1 for
-/// its `Content-Length`, then F3, F4, F5 and F6.
+/// Returns what a whole head within the limits asks for, or its first refusal: `BadHead` for a
+/// wrong `Content-Length`, then `NoRoute`, `WrongMethod`, `NoLength` and `BodyTooLong`. `front` has
+/// the bytes of the head, `spans` say where its parts lie in them, and `headers` are the spans of
+/// its fields.
 #[tactic(auto, unfolding(crate::specs::Wants::wanted))]
 pub fn want_of(
     routes: &Routes,

@@ -1,5 +1,5 @@
 -- The promise follows from what a run has done, on each disk that keeps the laws of disks.
-use Rattle.std.proofs.Common.{ℕ, ◌≡◌, ◌⊎◌, inl, inr, ◌++◌, List, [], Option, None, Some, IfSome, IsSome, ◌≢◌, refl, sym, ap, ◌∙◌, subst}
+use Rattle.std.proofs.Common.{ℕ, ◌≡◌, ◌⊎◌, inl, inr, List, [], Option, None, Some, IfSome, IsSome, ◌≢◌, refl, sym, ap, subst}
 use Rattle.std.specs.Prelude.{MatchOption}
 use Rattle.desk_traits.specs.Crash.{AreCrashes, LeavesOnly}
 use Rattle.desk_traits.specs.Faults.{Rose}

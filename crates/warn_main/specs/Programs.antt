@@ -1,5 +1,5 @@
 -- What the whole program does: which journal it opens, and what it does over it.
-use Rattle.std.specs.Prelude.{◌≡◌, ◌⊎◌, ℕ, List, Option, IsOkAnd, String, option_map, slice_get, string_bytes}
+use Rattle.std.specs.Prelude.{◌≡◌, ◌⊎◌, ℕ, List, IsOkAnd, String, option_map, slice_get, string_bytes}
 use Rattle.std.specs.declared.alloc.Global.{Global}
 use Rattle.byte_streams.specs.Flows.{Inflow, Outflow}
 use Rattle.desk_links.specs.Links.{PortState}

@@ -7,8 +7,8 @@ use hazard_types::{List, Text};
 use program_outside::Access;
 use serve_command::parse_serve_args;
 
-/// Returns whether a run with these arguments writes to the journal's file: `init`, `script`,
-/// `upgrade` and `serve` do.
+/// Returns `Writes` if a run with these arguments writes to the journal's file, as `init`,
+/// `script`, `upgrade` and `serve` do, and `Reads` for any others.
 pub fn access_of(words: &List<Text>) -> Access
     ensures { result ≡ access_of words.now }
 {

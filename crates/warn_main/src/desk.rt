@@ -21,7 +21,8 @@ use std::sync::Wait;
 use std::thread::Threads;
 
 /// Runs the command of the arguments, which is not `serve`, with an input of at most 1,073,741,824
-/// bytes, and returns the exit status and the disk.
+/// bytes, and returns the exit status and the disk. If the arguments are no command, the line of
+/// the fault `Usage` is written, and the status is 2, or 8 if that write fails.
 pub fn desk_alone<S: Source, K: Sink, D: Disk, C: Clock>(
     alloc: Global,
     words: &List<Text>,
@@ -39,10 +40,12 @@ pub fn desk_alone<S: Source, K: Sink, D: Disk, C: Clock>(
     desk_within(alloc, words, input, output, disk, clock, LIMIT)
 }
 
-/// Runs the command of the arguments, with an input of at most 1,073,741,824 bytes, and returns the
-/// exit status and the disk. The clause `promise` is the promise of the program.
-///
-/// docs/DEFINITIONS.md, "The headline".
+/// Runs the command of the arguments `words`, with an input of at most 1,073,741,824 bytes, and
+/// returns the exit status and the disk; for arguments that are no command the line of the fault
+/// `Usage` is written, and the status is 2, or 8 if that write fails. Only `serve` uses `port`, for
+/// its links, and `gate`, whose hooks are called around each call of a link. The clause `promise`
+/// is the promise of the program: accepted requests stand in one legal history, each once, the
+/// texts alone read as the board, and a crash leaves a prefix of that history.
 pub fn desk_run<
     R: Threads + Wait + Sync,
     S: Source,

@@ -16,6 +16,7 @@ use desk_traits::SystemClock;
 use program_outside::{HostFiles, host_io};
 use std::process::ExitCode;
 
+/// Runs the program over the host's words, input, output, files, clock and network.
 fn main(rt: HostRuntime) -> ExitCode {
     let mut desk = Desk {
         port: TcpPort::new(rt.alloc(), &rt),

@@ -13,7 +13,8 @@ pub enum Place<'a> {
     File(&'a str),
 }
 
-/// The place that an argument names.
+/// Returns where the journal is by an argument: in memory for `-`, else in the file whose path is
+/// `word`.
 fn named_place(word: &str) -> Place<'_>
     ensures { IsPlace (Some word.now) result }
 {
@@ -24,8 +25,9 @@ fn named_place(word: &str) -> Place<'_>
     }
 }
 
-/// Returns where a command line, whose first word is the program's name, says that the journal is:
-/// `-` for memory, else the path of a file.
+/// Returns where a command line says that the journal is, by the word after the program's name,
+/// which is the first of `command_line`: in memory for `-`, else in the file of this path. It is
+/// `Unnamed` if there is no such word.
 pub fn place_of(command_line: &[String]) -> Place<'_>
     ensures { IsPlace (option_map string_bytes (slice_get command_line.now 1)) result }
 {

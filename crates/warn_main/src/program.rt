@@ -43,7 +43,8 @@ pub struct Desk<P, C, G> {
     pub gate: G,
 }
 
-/// Runs the command of the arguments over a disk, closes the disk and returns the exit status.
+/// Runs the command of the arguments `words` over a disk, closes the disk and returns the exit
+/// status. Nothing is written to the messages of `outside`.
 fn run_over<
     R: Threads + Wait + Sync,
     S: Source,
@@ -82,9 +83,10 @@ fn run_over<
     ended.status
 }
 
-/// Runs the command line over the journal that its first argument names, and returns the exit
-/// status. If memory runs out for the arguments or for a disk in memory, the status is 12, and
-/// nothing is read or written.
+/// Runs the command that the arguments after the first ask for, over the journal that the first
+/// names: in memory for `-`, else in the file of this path. Returns the exit status. Without any
+/// argument the disk has no file, so each of its calls fails; if memory runs out for the arguments
+/// or for a disk in memory, the status is 12, and nothing is read or written.
 fn run_words<
     R: Threads + Wait + Sync,
     S: Source,
@@ -125,8 +127,8 @@ fn run_words<
 }
 
 /// Runs the whole program: opens the journal that the first argument names, runs the command of the
-/// others, and returns the exit status. The commands are printed as messages if the arguments are
-/// none of them.
+/// other arguments, and returns the exit status. If they are no command, a list of all commands is
+/// written as a message.
 pub fn run_program<
     R: Threads + Wait + Sync,
     S: Source,

@@ -1,7 +1,7 @@
 -- Shares, as they are given to one worker after another.
 use Rattle.std.proofs.Common.{◌≡◌, ℕ, zero, suc, ◌+◌, ◌-◌, ◌*◌, ◌/◌, ◌%◌, ◌<◌, ◌≤◌, List, [], ◌∷◌, ◌++◌, inl, inr, refl, ap, sym, ◌∙◌, subst, arith, append_assoc, append-nil, suc-mul, zero-mul, mod-lt}
 use Rattle.std.proofs.Math.Nat.{div-add-mod}
-use Rattle.warn_serve.specs.Gathered.{short_of}
+use Rattle.warn_serve.specs.Gathered.{end_with_losses}
 use Rattle.warn_serve.specs.Shares.{FallsShort, ServesShare, SharesOut, even_shares, share_at, shares_of, total_of, with_links}
 use Rattle.warn_serve.specs.Workers.{EndsWith, Visit}
 use Rattle.warn_serve.specs.declared.serving.ServeEnd.{ServeEnd}
@@ -87,14 +87,14 @@ sharing_done workers connections lost coming whole more had none s =
       λ all_had. ap with_links (sym (append-nil had) ∙ ap (λ (l : List ℕ). had ++ l) (sym rest)) ∙ s.even all_had,
     )
 
-short_end : (end : ServeEnd) (lost : ℕ) → FallsShort (short_of end (suc lost))
+short_end : (end : ServeEnd) (lost : ℕ) → FallsShort (end_with_losses end (suc lost))
 short_end Done lost = tt
 short_end PortFault lost = tt
 short_end OutOfMemory lost = tt
 
 -- what was shared out, where so many links are lost
 pub shared_out : (workers connections lost : ℕ) (had : List ℕ) (end next : ServeEnd) → total_of had + lost ≡ connections
-    → (lost ≡ 0 → with_links had ≡ with_links (shares_of workers connections)) → next ≡ short_of end lost → SharesOut workers connections had next
+    → (lost ≡ 0 → with_links had ≡ with_links (shares_of workers connections)) → next ≡ end_with_losses end lost → SharesOut workers connections had next
 shared_out workers connections zero had end next total even is = inl (even refl)
 shared_out workers connections (suc lost) had end next total even is =
     inr (omega (arith, total), subst FallsShort (sym is) (short_end end lost))

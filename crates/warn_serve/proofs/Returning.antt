@@ -4,7 +4,7 @@ use Rattle.std.proofs.lemmas.List.{map-append}
 use Rattle.desk_links.specs.Links.{DoorState, IsNone, IsUnused, LinkState, PortState, behind, with_door}
 use Rattle.desk_links.specs.Listening.{RoseWithFailure}
 use Rattle.hazard_types.specs.declared.or.Or.{Or}
-use Rattle.warn_serve.specs.Gathered.{TakesBack, end_after, short_of}
+use Rattle.warn_serve.specs.Gathered.{TakesBack, end_after, end_with_losses}
 use Rattle.warn_serve.specs.Shares.{total_of}
 use Rattle.warn_serve.specs.Served.{EndsAs, TellsBehind}
 use Rattle.warn_serve.specs.Workers.{EndsWith, Visit, out_of_memory_ends, links_of}
@@ -75,7 +75,7 @@ lacks_both [] ys = omega arith
 lacks_both (x ∷ xs) ys = let h = lacks_both xs ys in omega arith
 
 -- the end where for so many links no worker could be had
-pub ends_short : (first last : PortState) (shares left connections : ℕ) (visits : List Visit) (end : ServeEnd) → shares + left ≡ connections → length visits ≤ shares → EndsAs first last shares visits end → EndsAs first last connections visits (short_of end left)
+pub ends_short : (first last : PortState) (shares left connections : ℕ) (visits : List Visit) (end : ServeEnd) → shares + left ≡ connections → length visits ≤ shares → EndsAs first last shares visits end → EndsAs first last connections visits (end_with_losses end left)
 ends_short first last shares zero connections visits Done all within e = (omega (arith, all, e.0), e.1, e.2)
 ends_short first last shares (suc left) connections visits Done all within e = (inl (omega (arith, all, e.0)), e.2)
 ends_short first last shares left connections visits PortFault all within e = (omega (arith, all, e.0), e.1)

@@ -6,7 +6,7 @@ use mathlib.Core.List.{IsPrefix}
 use Rattle.desk_links.specs.Links.{DoorState, PortState, with_door}
 use Rattle.turn_lock.specs.Passes.{PassRecord, joined}
 use Rattle.warn_http.specs.Calls.{Called}
-use Rattle.warn_serve.specs.Gathered.{DoesShare, HasDone, IsFresh, IsGathered, IsPartOf, KeepsWhole, TakesBack, end_after, short_of}
+use Rattle.warn_serve.specs.Gathered.{DoesShare, HasDone, IsFresh, IsGathered, IsPartOf, KeepsWhole, TakesBack, end_after, end_with_losses}
 use Rattle.warn_serve.specs.Served.{EndsAs, Part, TellsBehind, passes_of, visits_of}
 use Rattle.warn_serve.specs.Sharing.{Gathers}
 use Rattle.warn_serve.specs.Workers.{EndsWith, Visit}
@@ -94,7 +94,7 @@ module _ {B E : Type 0} (answers lost : Called → PassRecord B E → PassRecord
   part_before old pass p kept h = record { start = h.start; is_share = first_share old pass h.start kept h.is_share; visits = h.visits; ends = h.ends }
 
   -- the same with the pass and the port before workers were hired, and with the links that none had to serve
-  pub gathered_short : (given : List ℕ) (shares left connections : ℕ) (first mid last : PortState) (old pass new : PassRecord B E) (end next : ServeEnd) → IsGathered answers lost given shares mid last pass new end → KeepsWhole old pass → TakesBack first mid [] → mid.faults ≤ first.faults → shares + left ≡ connections → next ≡ short_of end left → IsGathered answers lost given connections first last old new next
+  pub gathered_short : (given : List ℕ) (shares left connections : ℕ) (first mid last : PortState) (old pass new : PassRecord B E) (end next : ServeEnd) → IsGathered answers lost given shares mid last pass new end → KeepsWhole old pass → TakesBack first mid [] → mid.faults ≤ first.faults → shares + left ≡ connections → next ≡ end_with_losses end left → IsGathered answers lost given connections first last old new next
   gathered_short given shares left connections first mid last old pass new end next g kept back steady all is = record {
     parts = g.parts;
     given_is = g.given_is;

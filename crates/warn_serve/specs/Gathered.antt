@@ -13,15 +13,15 @@ use Rattle.warn_serve.specs.declared.workers.WorkerEnd.{WorkerEnd}
 use Rattle.warn_serve.specs.declared.workers.WorkerEnd.TheVariants.{Done as Worked, PortFault as Failed}
 
 -- an end, where for so many links memory lacked
-abbrev pub short_of : ServeEnd → ℕ → ServeEnd
-short_of Done zero = Done
-short_of Done (suc lacks) = OutOfMemory
-short_of PortFault lacks = PortFault
-short_of OutOfMemory lacks = OutOfMemory
+abbrev pub end_with_losses : ServeEnd → ℕ → ServeEnd
+end_with_losses Done zero = Done
+end_with_losses Done (suc lacks) = OutOfMemory
+end_with_losses PortFault lacks = PortFault
+end_with_losses OutOfMemory lacks = OutOfMemory
 
 -- an end, after one worker more that ended so
 abbrev pub end_after : ServeEnd → WorkerEnd → ServeEnd
-end_after end (Worked lacks) = short_of end lacks
+end_after end (Worked lacks) = end_with_losses end lacks
 end_after end Failed = PortFault
 
 -- these links went back to the port, with their doors

@@ -25,7 +25,11 @@ pub(crate) enum AnswerBytes {
 }
 
 impl AnswerBytes {
-    /// Writes the bytes, and takes no memory. On `Err` a prefix of them may be written.
+    /// Writes the bytes of the answer to the link. Takes no memory.
+    ///
+    /// # Errors
+    ///
+    /// `Failed` if a write failed; a prefix of the bytes may be written.
     pub(crate) fn write<L: Link>(&self, link: &mut L) -> Result<(), Failed>
         ensures { WritesLink (L.state link.old) (L.state link.new) result (bytes_of self.now) }
     {
@@ -37,7 +41,8 @@ impl AnswerBytes {
     }
 }
 
-/// The answer with this body.
+/// Returns the HTTP answer with this body to a call that came to this outcome. It has `Connection:
+/// close` if `last`, that is if the link closes after it. `Err` is out of memory.
 fn answer_with(
     alloc: Global,
     outcome: &Outcome,
@@ -50,7 +55,12 @@ fn answer_with(
     Ok(AnswerBytes::Written(text))
 }
 
-/// The answer to a refused call.
+/// Returns the answer to a refused call: the refusal as JSON, with its HTTP status, and with
+/// `Connection: close` if `last`.
+///
+/// # Errors
+///
+/// Out of memory.
 pub(crate) fn refused_answer(
     alloc: Global,
     refusal: Refusal,
@@ -62,7 +72,8 @@ pub(crate) fn refused_answer(
     answer_with(alloc, &Outcome::Refused(refusal), &body, last)
 }
 
-/// The answer with a reply. If memory runs out for its bytes it is written in pieces.
+/// Returns the 200 answer whose body is this reply, with `Connection: close` if `last`. If memory
+/// runs out for its bytes, it is one to be written in pieces.
 fn reply_response(alloc: Global, reply: Text, last: bool) -> AnswerBytes
     ensures { bytes_of result ≡ call_answer Outcome.Replied reply last }
 {
@@ -72,7 +83,12 @@ fn reply_response(alloc: Global, reply: Text, last: bool) -> AnswerBytes
     }
 }
 
-/// The answer to a submitted request. Memory can run out for a refusal only.
+/// Returns the answer to a call that posted a request, which the office answered with `answer`. It
+/// has `Connection: close` if `last`.
+///
+/// # Errors
+///
+/// Out of memory, for a refused request only.
 pub(crate) fn submit_answer(alloc: Global, answer: Answer, last: bool) -> Result<AnswerBytes, Oom>
     ensures bytes { IfOk result (λ bytes. bytes_of bytes ≡ submit_answer answer last) }
     ensures lost { OnErr result (MayBeLost answer) }
@@ -86,7 +102,12 @@ pub(crate) fn submit_answer(alloc: Global, answer: Answer, last: bool) -> Result
     }
 }
 
-/// The answer to a look.
+/// Returns the answer to a call with a query. `shown` is the text that the query asks to see, or
+/// why there is none; the answer has `Connection: close` if `last`.
+///
+/// # Errors
+///
+/// Out of memory.
 pub(crate) fn look_answer(
     alloc: Global,
     query: Query,

@@ -18,7 +18,9 @@ use turn_lock::Pass;
 use warn_http::{Call, no_memory_answer};
 
 impl<R: Wait, D: Disk, C: Clock, G> Service<'_, R, D, C, G> {
-    /// Takes a look in a turn, and reads the clock in it. It may wait for the turn.
+    /// Returns the text that a query asks to see, or why there is none: the refusal of the query,
+    /// or out of memory. The clock is read in the same turn at the office. It may wait for the
+    /// turn.
     fn look_in_turn(
         &self,
         pass: &mut Pass<SharedOffice<D>>,
@@ -39,7 +41,9 @@ impl<R: Wait, D: Disk, C: Clock, G> Service<'_, R, D, C, G> {
         )
     }
 
-    /// Submits a request in a turn, and returns its answer.
+    /// Submits a request in a turn at the office, and returns the answer to its call, with
+    /// `Connection: close` if `last`. It may wait for the turn. `Err` is out of memory for the
+    /// answer's bytes, which comes only if nothing happened in the turn.
     fn answer_request(
         &self,
         pass: &mut Pass<SharedOffice<D>>,
@@ -58,7 +62,8 @@ impl<R: Wait, D: Disk, C: Clock, G> Service<'_, R, D, C, G> {
         submit_answer(self.alloc, outcome, last)
     }
 
-    /// Takes a look in a turn, and returns the answer that shows it.
+    /// Takes a query in a turn at the office, and returns the answer to its call, with `Connection:
+    /// close` if `last`. It may wait for the turn. `Err` is out of memory for the answer's bytes.
     fn answer_look(
         &self,
         pass: &mut Pass<SharedOffice<D>>,
@@ -76,7 +81,10 @@ impl<R: Wait, D: Disk, C: Clock, G> Service<'_, R, D, C, G> {
         look_answer(self.alloc, query, shown, last)
     }
 
-    /// The answer to a call that posts these bytes.
+    /// Reads a request from the posted bytes, submits it in a turn at the office, and returns the
+    /// answer, with `Connection: close` if `last`. Without a turn, bytes that are no request are
+    /// refused, and the answer is that memory ran out if it does so as they are read. `Err` is out
+    /// of memory for the answer's bytes, which comes only if nothing happened in the turn.
     fn answer_post(
         &self,
         pass: &mut Pass<SharedOffice<D>>,
@@ -97,7 +105,9 @@ impl<R: Wait, D: Disk, C: Clock, G> Service<'_, R, D, C, G> {
         }
     }
 
-    /// The answer to a call. `bytes` are those of the call, its body among them.
+    /// Submits a call's request or takes its query in a turn at the office, for which it may wait,
+    /// and returns the answer, with `Connection: close` if `last`. `bytes` has the call at its
+    /// start, head and body; a body that is no request is refused without a turn.
     ///
     /// # Errors
     ///

@@ -30,8 +30,9 @@ pub(crate) struct Worker<T: Storied, Dr> {
     pub(crate) end: WorkerEnd,
 }
 
-/// The next worker's number of links, `whole` and one more while `more` is not 0, and what is left
-/// of `more`.
+/// Returns the number of links for the next worker: `whole`, and one more if `more` is not 0.
+/// `more` is how many workers from this one on get one link more; beside the number it returns how
+/// many of those after this one do.
 fn share_of(whole: u64, more: u64) -> (u64, u64)
     requires { whole ≤ 1000000 }
     ensures share { result.0 ≡ share_at whole more }
@@ -45,8 +46,9 @@ fn share_of(whole: u64, more: u64) -> (u64, u64)
 }
 
 impl<R, D: Disk, C, G> Service<'_, R, D, C, G> {
-    /// A share of the pass and an inbox for one more worker, for whom there is room in `workers`
-    /// then.
+    /// Returns a share of `pass`, the right to take turns at the office, and an empty inbox for one
+    /// more worker, and makes room for that worker in `workers`. `pass` must have two shares at
+    /// least. If memory runs out, the pass and the workers are as before.
     fn equip<Dr>(
         &self,
         pass: &mut Pass<SharedOffice<D>>,
@@ -66,10 +68,10 @@ impl<R, D: Disk, C, G> Service<'_, R, D, C, G> {
         Ok((part, inbox))
     }
 
-    /// Makes a worker for each door, with a share of the pass and of the links: worker k of W gets
-    /// the whole part of `connections` / W, and one more if k, counted from 1, is at most the
-    /// remainder. If memory runs out for a worker its door goes back to the port. Returns the
-    /// workers, and the number of links that have none.
+    /// Makes a worker for each door, with a share of `pass`, the right to take turns at the office,
+    /// and of the links: worker k of W gets the whole part of `connections` / W, and one more if k,
+    /// counted from 1, is at most the remainder. If memory runs out for a worker, its door goes
+    /// back to the port. Returns the workers, and the number of links that have none.
     pub(crate) fn share_out<P: Port>(
         &self,
         pass: &mut Pass<SharedOffice<D>>,
@@ -120,7 +122,8 @@ impl<R, D: Disk, C, G> Service<'_, R, D, C, G> {
 }
 
 impl<R: Wait, D: Disk, C: Clock, G: Gate> Service<'_, R, D, C, G> {
-    /// Lets a worker serve its share of the links.
+    /// Serves the worker's share of links over its door, which must be unused, and sets in
+    /// `one.end` how the worker ended.
     fn work<Dr: Door>(&self, one: &mut Worker<SharedOffice<D>, Dr>)
         requires lock { one.old.pass.lock ≡ self.now.lock.now }
         requires few { one.old.share ≤ 1000000 }
@@ -137,7 +140,8 @@ impl<R: Wait, D: Disk, C: Clock, G: Gate> Service<'_, R, D, C, G> {
     }
 }
 
-/// Lets each worker serve its share of the links, in a thread of its own if one can be made.
+/// Serves the share of links of each worker, each in a thread of its own if one can be made, and
+/// sets how each worker ended. With more than 16 workers some share a thread.
 pub(crate) fn work_all<
     R: Threads + Wait + Sync,
     D: Disk + Send,

@@ -12,10 +12,10 @@ ghost use Rattle.warn_serve.specs.declared.links.LinkEnd.{LinkEnd};
 
 use desk_traits::{Clock, Disk};
 
-/// A link ends only by the cause of its end. For the same bytes the causes of `Closed`, `Cut` and
-/// `Spent` exclude one another, so two links with the same bytes read, which neither failed nor ran
-/// out of memory, end in the same way. The one exception is bytes that end within the target of a
-/// bad head: they may be refused (`Closed`), or cut by the end of the input.
+/// A link has a `LinkEnd` only if the cause that this names has come about. The causes of `Closed`,
+/// `Cut` and `Spent` exclude one another, so two links with the same bytes read, which neither
+/// failed nor ran out of memory, end in the same way. The one exception is bytes that end within
+/// the target of a bad head: they may be refused (`Closed`), or cut by the end of the input.
 pub fn links_end_by_their_causes<D: Disk, C: Clock>()
     ensures cause { (clock : C) (old new : LinkState)
         (pass pass' : PassRecord (KeptOffice D D.Disk) (Happening D D.Disk)) (end : LinkEnd)

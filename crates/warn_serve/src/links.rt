@@ -39,8 +39,8 @@ pub enum LinkEnd {
     OutOfMemory,
 }
 
-/// Writes an answer, and returns how the link ended if it did: it closes if `last`. Takes no
-/// memory.
+/// Writes an answer, and returns how the link ended, or `None` if it goes on. It ends with `Closed`
+/// if the answer is its `last` one, and with `LinkFault` if a write failed. Takes no memory.
 fn finish<L: Link>(link: &mut L, answer: &AnswerBytes, last: bool) -> Option<LinkEnd>
     ensures { Sends ⊥ (L.state link.old) (L.state link.new) (bytes_of answer.now) last result }
 {
@@ -51,7 +51,9 @@ fn finish<L: Link>(link: &mut L, answer: &AnswerBytes, last: bool) -> Option<Lin
     }
 }
 
-/// Writes the refusal of a call, after which the link closes.
+/// Writes the answer to a refused call, after which the link closes, and returns how the link
+/// ended, never `None`. If memory runs out for the answer, nothing is written and the link ends
+/// with `OutOfMemory`.
 fn refuse<L: Link>(alloc: Global, link: &mut L, refusal: Refusal) -> Option<LinkEnd>
     ensures { Sends (Unit {0}) (L.state link.old) (L.state link.new) (refused_answer refusal true)
         true result }
@@ -63,8 +65,10 @@ fn refuse<L: Link>(alloc: Global, link: &mut L, refusal: Refusal) -> Option<Link
 }
 
 impl<R: Wait, D: Disk, C: Clock, G: Gate> Service<'_, R, D, C, G> {
-    /// Answers a call, whose body is in `bytes`, and returns how the link ended if it did. Memory
-    /// can run out for the answer only if nothing happened in the call's turn.
+    /// Answers a call, and returns how the link ended: `LinkFault` if a write failed, `OutOfMemory`
+    /// if memory ran out for the answer, else `Closed` if `last`, else `None`, as the link goes on.
+    /// `bytes` has the call at its start, head and body. Memory can run out for the answer only if
+    /// nothing happened in the call's turn at the office, for which `pass` is the right.
     fn serve_call<L: Link>(
         &self,
         pass: &mut Pass<SharedOffice<D>>,
@@ -88,7 +92,9 @@ impl<R: Wait, D: Disk, C: Clock, G: Gate> Service<'_, R, D, C, G> {
         }
     }
 
-    /// Reads and answers call `number` of a link, and returns how the link ended if it did.
+    /// Reads and answers the next call of a link, and returns how the link ended, or `None` if it
+    /// goes on. `number` is the number of the call on its link, counted from 1, with which the
+    /// gate, a hook before and after each call, is called.
     fn serve_next<L: Link>(
         &self,
         pass: &mut Pass<SharedOffice<D>>,
@@ -119,7 +125,9 @@ impl<R: Wait, D: Disk, C: Clock, G: Gate> Service<'_, R, D, C, G> {
         }
     }
 
-    /// Serves the calls of a link, from its first one on.
+    /// Serves the calls of a link, at most 10,000, and returns how the link ended; that is `Spent`
+    /// if 10,000 calls were served and none of them closed the link. `inbox` must be empty, and
+    /// `pass`, the right to take turns at the office, must be one of its lock.
     fn serve_calls<L: Link>(
         &self,
         pass: &mut Pass<SharedOffice<D>>,
@@ -143,9 +151,10 @@ impl<R: Wait, D: Disk, C: Clock, G: Gate> Service<'_, R, D, C, G> {
         LinkEnd::Spent
     }
 
-    /// Serves a link: reads its calls, at most 10,000, answers each in a turn of its own, at a
-    /// reading of the clock taken in that turn, and returns how the link ended. `gate` is called
-    /// with each call's number, counted from 1. Whatever `inbox` had is dropped.
+    /// Serves a link: reads its calls, at most 10,000, answers each in a turn of its own at the
+    /// office, at a reading of the clock taken in that turn, and returns how the link ended. `pass`
+    /// is the right to take turns, and the hook `gate` is called before and after each call with
+    /// its number, counted from 1. Whatever `inbox` had is dropped.
     ///
     /// docs/HTTP.md, "When the link closes".
     pub fn serve_link<L: Link>(
@@ -167,7 +176,11 @@ impl<R: Wait, D: Disk, C: Clock, G: Gate> Service<'_, R, D, C, G> {
     }
 }
 
-/// Serves one link, as `Service::serve_link` does, with routes and an inbox of its own.
+/// Serves one link with routes and an inbox of its own: reads its calls, at most 10,000, answers
+/// each in a turn of its own at the office in `lock`, for which `pass` is the right, and returns
+/// how the link ended. The hook `gate` is called before and after each call with its number,
+/// counted from 1. If memory runs out for the routes or the inbox, nothing is read and the link
+/// ends with `OutOfMemory`.
 pub fn serve_link<R: Wait, D: Disk, L: Link, C: Clock, G: Gate>(
     rt: &R,
     alloc: Global,

@@ -11,7 +11,8 @@ use desk_traits::Failed;
 use hazard_types::Text;
 use itoa::Buffer;
 
-/// The bytes between the number of a reply's bytes and the reply.
+/// Returns the bytes of an answer between the number after `Content-Length: ` and the body: the
+/// rest of the head, with `Connection: close` if `last`.
 fn behind_length(last: bool) -> &'static [u8]
     ensures { result.now ≡ behind_length last }
 {
@@ -22,7 +23,7 @@ fn behind_length(last: bool) -> &'static [u8]
     }
 }
 
-/// Writes `first` and then `second`. On `Err` a prefix of both may be written.
+/// Writes `first` and then `second` to the link. On `Err` a prefix of both may be written.
 fn write_both<L: Link>(link: &mut L, first: &[u8], second: &[u8]) -> Result<(), Failed>
     ensures { WritesLink (L.state link.old) (L.state link.new) result (first.now ++ second.now) }
 {
@@ -30,7 +31,8 @@ fn write_both<L: Link>(link: &mut L, first: &[u8], second: &[u8]) -> Result<(), 
     write_link(link, second)
 }
 
-/// Writes the head before a reply of `count` bytes.
+/// Writes the head of a 200 answer with a JSON body of `count` bytes, with `Connection: close` if
+/// `last`. Takes no memory; on `Err` a prefix of it may be written.
 fn write_head<L: Link>(link: &mut L, count: usize, last: bool) -> Result<(), Failed>
     ensures { WritesLink (L.state link.old) (L.state link.new) result (reply_head count last) }
 {
@@ -43,7 +45,12 @@ fn write_head<L: Link>(link: &mut L, count: usize, last: bool) -> Result<(), Fai
     write_link(link, behind_length(last))
 }
 
-/// Writes the answer with a reply. On `Err` a prefix of it may be written.
+/// Writes the 200 answer whose body is this reply, with `Connection: close` if `last`. Takes no
+/// memory.
+///
+/// # Errors
+///
+/// `Failed` if a write failed; a prefix of the answer may be written.
 pub(crate) fn write_reply<L: Link>(link: &mut L, reply: &Text, last: bool) -> Result<(), Failed>
     ensures { WritesLink (L.state link.old) (L.state link.new) result
         (call_answer Replied reply.now last) }

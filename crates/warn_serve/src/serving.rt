@@ -1,7 +1,7 @@
 //! The whole service: workers over the doors of a port, who share one office.
 ghost use Rattle.std.specs.Prelude.{◌≡◌, ◌≤◌, ◌<◌, ◌+◌, ℕ, List, All, map, vec_len};
 ghost use Rattle.warn_serve.specs.Calls.{AnswersCall, LosesCall};
-ghost use Rattle.warn_serve.specs.Gathered.{HasDone, IsFresh, IsGathered, end_after, short_of};
+ghost use Rattle.warn_serve.specs.Gathered.{HasDone, IsFresh, IsGathered, end_after, end_with_losses};
 ghost use Rattle.warn_serve.specs.Shares.{SharesOut, total_of};
 ghost use Rattle.warn_serve.specs.Served.{HasListened, IsServed};
 
@@ -30,9 +30,10 @@ pub enum ServeEnd {
     OutOfMemory,
 }
 
-/// The end, given how many links ran out of memory.
-fn short_of(end: ServeEnd, lacks: u64) -> ServeEnd
-    ensures { result ≡ short_of end lacks }
+/// Returns `OutOfMemory` if `end` is `Done` and memory ran out for some links, else `end`. `lacks`
+/// is the count of these links.
+fn end_with_losses(end: ServeEnd, lacks: u64) -> ServeEnd
+    ensures { result ≡ end_with_losses end lacks }
 {
     match end {
         ServeEnd::Done => {
@@ -47,19 +48,23 @@ fn short_of(end: ServeEnd, lacks: u64) -> ServeEnd
     }
 }
 
-/// The end, given how one more worker ended.
+/// Returns how the service ended, where `end` is how it ended as far as the workers before this one
+/// tell, and `worked` is how this one ended. A failed accept makes it `PortFault`, and links for
+/// which memory ran out make `Done` into `OutOfMemory`; otherwise it stays `end`.
 fn end_after(end: ServeEnd, worked: WorkerEnd) -> ServeEnd
     ensures { result ≡ end_after end worked }
 {
     match worked {
-        WorkerEnd::Done(lacks) => short_of(end, lacks),
+        WorkerEnd::Done(lacks) => end_with_losses(end, lacks),
         WorkerEnd::PortFault => ServeEnd::PortFault,
     }
 }
 
 impl<R, D: Disk, C: Clock, G> Service<'_, R, D, C, G> {
-    /// Joins the passes of all workers, returns their doors to the port, and returns how the
-    /// service ended.
+    /// Joins the passes of all workers, their rights to take turns at the office, to `pass`, gives
+    /// their doors back to the port, and returns how the service ended: `PortFault` if an accept of
+    /// a worker failed, else `OutOfMemory` if memory ran out for a link, else `Done`. The workers
+    /// must have served their shares of links.
     fn gather<P: Port>(
         &self,
         pass: &mut Pass<SharedOffice<D>>,
@@ -103,7 +108,10 @@ impl<R: Threads + Wait + Sync, D: Disk + Send, C: Clock + Sync, G: Gate + Sync> 
     C,
     G,
 > {
-    /// Lets the workers serve their shares, then gathers their passes and doors.
+    /// Serves the links of all workers, joins their passes, their rights to take turns at the
+    /// office, to `pass`, and gives their doors back to the port. Returns how the service ended:
+    /// `PortFault` if an accept failed, else `OutOfMemory` if memory ran out for a link, else
+    /// `Done`. The workers must not have served yet.
     fn serve_shares<P: Port>(
         &self,
         pass: &mut Pass<SharedOffice<D>>,
@@ -127,7 +135,11 @@ impl<R: Threads + Wait + Sync, D: Disk + Send, C: Clock + Sync, G: Gate + Sync> 
         self.gather(pass, port, workers)
     }
 
-    /// Serves `connections` links with a worker for each of `workers` doors at the port `number`.
+    /// Serves `connections` links (1 to 1,000,000) at the port `number`, with a worker for each of
+    /// `workers` doors (1 to 16), and returns how the service ended. If the port can't be had, that
+    /// is `PortFault`, or `OutOfMemory` if memory ran out for it, and no link is served. Links of a
+    /// worker for which memory runs out are served by nobody, which makes `Done` into
+    /// `OutOfMemory`.
     fn serve_port<P: Port>(
         &self,
         pass: &mut Pass<SharedOffice<D>>,
@@ -155,14 +167,15 @@ impl<R: Threads + Wait + Sync, D: Disk + Send, C: Clock + Sync, G: Gate + Sync> 
         };
         let (hired, lost) = self.share_out(pass, port, doors, connections);
         let end = self.serve_shares(pass, port, hired);
-        short_of(end, lost)
+        end_with_losses(end, lost)
     }
 }
 
 /// Serves `connections` links (1 to 1,000,000) at port `number` with `workers` workers (1 to 16)
-/// over one office, and returns the office and how the service ended. If memory runs out for a
-/// worker, its links are served by nobody and the end is `OutOfMemory`. The port's count of faults
-/// has risen only if the end is `PortFault`.
+/// over one office, and returns the office and how the service ended. It ends with `PortFault` if
+/// the port can't be had or an accept fails, and otherwise with `OutOfMemory` if memory runs out at
+/// the start, so that no link is served, for a worker, whose links nobody serves, or for a link.
+/// The port's count of faults has risen only if the end is `PortFault`.
 ///
 /// docs/SERVING.md, and docs/DECISIONS.md, "The server".
 pub fn serve<R: Threads + Wait + Sync, D: Disk + Send, P: Port, C: Clock + Sync, G: Gate + Sync>(

@@ -22,7 +22,7 @@ pub enum WorkerEnd {
     PortFault,
 }
 
-/// 1 for a link that ended because memory ran out, else 0.
+/// Returns 1 for a link that ended because memory ran out, else 0.
 fn count_if_out_of_memory(end: LinkEnd) -> u64
     ensures value { result ≡ count_if_out_of_memory end }
     ensures most { result ≤ 1 }
@@ -34,7 +34,8 @@ fn count_if_out_of_memory(end: LinkEnd) -> u64
 }
 
 impl<R: Wait, D: Disk, C: Clock, G: Gate> Service<'_, R, D, C, G> {
-    /// Accepts the next link of a door, serves it and returns it to the door.
+    /// Accepts the next link of a door, serves it, gives it back to the door, and returns how the
+    /// link ended. If the accept fails, it returns `Failed`, and no call is answered.
     fn serve_one<Dr: Door>(
         &self,
         pass: &mut Pass<SharedOffice<D>>,
@@ -58,8 +59,9 @@ impl<R: Wait, D: Disk, C: Clock, G: Gate> Service<'_, R, D, C, G> {
         Ok(end)
     }
 
-    /// Serves `share` links of a door, at most 1,000,000, one after another, and returns each to
-    /// the door. It stops at the first failed accept. `door` must be unused.
+    /// Serves `share` links of an unused door, at most 1,000,000, one after another, and gives each
+    /// back to the door. Returns `Done` with the count of links that ended because memory ran out,
+    /// or `PortFault` at the first failed accept, after which no link is served.
     pub fn worker<Dr: Door>(
         &self,
         pass: &mut Pass<SharedOffice<D>>,

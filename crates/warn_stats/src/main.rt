@@ -6,6 +6,8 @@ use program_outside::host_io;
 use stats_report::Statistics;
 use std::process::ExitCode;
 
+/// Runs the statistics of an archive over the system's command line, standard input and output, and
+/// returns the exit code.
 fn main(rt: HostRuntime) -> ExitCode {
     host_io(&rt).run::<Statistics>()
 }

@@ -6,6 +6,8 @@ use county_notices::CountyNotices;
 use program_outside::host_io;
 use std::process::ExitCode;
 
+/// Runs the county notices over the system's command line, standard input and output, and returns
+/// the exit code.
 fn main(rt: HostRuntime) -> ExitCode {
     host_io(&rt).run::<CountyNotices>()
 }

@@ -27,12 +27,13 @@ struct Script {
 }
 
 impl Scripts for Script {
-    /// Whether a kind of lines has this name.
+    /// Whether a kind of lines has this name: `codes`, `texts`, `requests`, `calls` or `tour`.
     fn has(&self, name: &str) -> bool {
         matches!(name, "codes" | "texts" | "requests" | "calls" | "tour")
     }
 
-    /// Returns what the script of a kind prints for a line.
+    /// Runs a line by the script of the kind with this name, of `codes` for any other name, and
+    /// returns what to print for it.
     fn work_as(&mut self, alloc: Global, name: &str, line: &str) -> Result<String, Oom> {
         match name {
             "texts" => Texts.work(alloc, line),
@@ -44,6 +45,8 @@ impl Scripts for Script {
     }
 }
 
+/// Runs each line of standard input by the script of its kind and prints what it returns. The exit
+/// status is `FAILURE` if an error ends the run.
 fn main(rt: HostRuntime) -> ExitCode {
     let alloc = rt.alloc();
     match Calls::new(alloc) {

@@ -26,12 +26,13 @@ struct Script {
 }
 
 impl Scripts for Script {
-    /// Whether a kind of lines has this name.
+    /// Whether lines have a kind of this name: `desk`, `program` or `notices`.
     fn has(&self, name: &str) -> bool {
         matches!(name, "desk" | "program" | "notices")
     }
 
-    /// Returns what the script of a kind prints for a line.
+    /// Does a line in the script `program` or `notices`, or for any other name in that of the desk,
+    /// and returns what is printed for it.
     fn work_as(&mut self, alloc: Global, name: &str, line: &str) -> Result<String, Oom> {
         match name {
             "program" => self.program.work(alloc, line),
@@ -41,6 +42,8 @@ impl Scripts for Script {
     }
 }
 
+/// Runs each line of standard input by its script and prints what it returns. The exit status is
+/// `FAILURE` at the first error in reading, printing or memory.
 fn main(rt: HostRuntime) -> ExitCode {
     let alloc = rt.alloc();
     let script = Script {

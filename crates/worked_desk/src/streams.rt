@@ -22,22 +22,24 @@ pub struct Run {
 
 /// Runs over streams, and the steps of their script beside those of every such script.
 pub trait Runs {
-    /// Runs with these words over a stream.
+    /// Runs with these words as arguments over the input of a stream, as its settings say, and
+    /// returns the exit status and what was written.
     ///
     /// # Errors
     ///
     /// Out of memory.
     fn run(&mut self, alloc: Global, words: &str, stream: &Stream) -> Result<Run, Oom>;
 
-    /// Returns what is printed before the last line of a run that wrote so many bytes.
+    /// Returns a text that is printed before the last line of a run's output if only that line is
+    /// printed. `bytes` is how many bytes the run wrote.
     ///
     /// # Errors
     ///
     /// Out of memory.
     fn before_last(&self, alloc: Global, bytes: usize) -> Result<String, Oom>;
 
-    /// Does the step of a line on a stream and returns what is printed for it, or `None` if the line
-    /// is no step of this script alone.
+    /// Does a step that only scripts of this kind have, on the stream `on`, and returns what is
+    /// printed for it, or `None` if the line is no such step.
     ///
     /// # Errors
     ///
@@ -65,7 +67,7 @@ enum Step<'a> {
     Set(Setting),
 }
 
-/// Returns the last line of a text.
+/// Returns the last line of a text, without its LF.
 fn last_line(text: &str) -> &str {
     let whole = text.strip_suffix('\n').unwrap_or(text);
     match whole.rsplit_once('\n') {
@@ -74,7 +76,10 @@ fn last_line(text: &str) -> &str {
     }
 }
 
-/// Returns the step of a word with a number, or `None`.
+/// Returns the step of a word with the number `rest`: so many letters more in the input
+/// (`letters`), or, for the next run, the most bytes of a read (`piece`) or of the input (`limit`),
+/// or the number of one more read or write that fails (`read`, `write`). It is `None` for another
+/// word, or if `rest` is no decimal number below 2^32.
 fn numbered_step<'a>(word: &str, rest: &str) -> Option<Step<'a>> {
     let number = rest.parse::<u32>().ok()?;
     if word == "letters" {
@@ -84,8 +89,10 @@ fn numbered_step<'a>(word: &str, rest: &str) -> Option<Step<'a>> {
     Some(Step::Set(setting))
 }
 
-/// Returns the step of a line, or `None` if it changes no stream. An empty line and one that begins
-/// with `#` are remarks.
+/// Returns the step of a line: a remark, which is an empty line or one that begins with `#`; a line
+/// for the input with LF (`ask LINE`), with CR and LF (`return LINE`) or with no line end (`unended
+/// LINE`); or `letters`, `piece`, `limit`, `read` or `write` with a decimal number below 2^32. It
+/// is `None` for another line.
 fn step_of(line: &str) -> Option<Step<'_>> {
     if is_remark(line) {
         return Some(Step::Remark);
@@ -99,8 +106,9 @@ fn step_of(line: &str) -> Option<Step<'_>> {
     }
 }
 
-/// Returns the words of a line that runs, and whether all that the run wrote is printed: `run`,
-/// `run WORDS` or `last WORDS`. Returns `None` for another line.
+/// Returns the arguments of the run that a line asks for, and whether all that the run writes is
+/// printed. It is true for `run` and `run WORDS`, and false for `last WORDS`, of which only the
+/// last line is printed. `None` is for another line.
 fn run_asked(line: &str) -> Option<(&str, bool)> {
     if line == "run" {
         return Some(("", true));
@@ -113,7 +121,8 @@ fn run_asked(line: &str) -> Option<(&str, bool)> {
 }
 
 impl Stream {
-    /// Returns an empty input, for which nothing is set.
+    /// Returns a stream with an empty input, read in pieces of at most 4,096 bytes, in which no
+    /// call fails.
     fn new(alloc: Global) -> Self {
         Stream {
             input: List::new(alloc),
@@ -121,7 +130,7 @@ impl Stream {
         }
     }
 
-    /// Appends `count` letters to the input.
+    /// Appends `count` letters `a`, without a line end, to the input.
     fn add_letters(&mut self, count: u32) -> Result<(), Oom> {
         for _ in 0..count {
             self.input.push(b'a')?;
@@ -129,7 +138,8 @@ impl Stream {
         Ok(())
     }
 
-    /// Does the step of a line that changes the stream, and returns whether the line is one.
+    /// Does the step of a line that is a remark or changes the input or the settings of the next
+    /// run, and returns `true`. For another line it changes nothing and returns `false`.
     fn prepare(&mut self, line: &str) -> Result<bool, Oom> {
         match step_of(line) {
             Some(Step::Remark) => {}
@@ -143,7 +153,8 @@ impl Stream {
 }
 
 impl<R: Runs + Drop> Script<R> {
-    /// Returns a script of these runs, with an empty stream.
+    /// Returns a script that runs by `runs`, with an empty input for the next run and nothing set
+    /// for it.
     pub fn new(alloc: Global, runs: R) -> Self {
         Script {
             stream: Stream::new(alloc),
@@ -151,8 +162,9 @@ impl<R: Runs + Drop> Script<R> {
         }
     }
 
-    /// Runs with these words, and returns what it wrote, or its last line, and the exit status. The
-    /// stream is then empty.
+    /// Runs with these words as arguments, and returns all that the run wrote if `shows_all`, or
+    /// else only its last line after what `before_last` returns, and then the line `status N`. The
+    /// stream is then empty, with nothing set.
     fn run_step(&mut self, alloc: Global, words: &str, shows_all: bool) -> Result<String, Oom> {
         let run = self.runs.run(alloc, words, &self.stream)?;
         self.stream = Stream::new(alloc);
@@ -168,7 +180,8 @@ impl<R: Runs + Drop> Script<R> {
 }
 
 impl<R: Runs + Drop> Work for Script<R> {
-    /// Returns what is printed for a line.
+    /// Does the step of a line, and returns what is printed for it: `unread: LINE` if it is no
+    /// step.
     fn work(&mut self, alloc: Global, line: &str) -> Result<String, Oom> {
         if self.stream.prepare(line)? {
             return Ok(String::new(alloc));

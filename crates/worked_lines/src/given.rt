@@ -31,7 +31,9 @@ pub enum Setting {
     BadWrite(u64),
 }
 
-/// Returns what a word with a number sets, or `None` for another word.
+/// Returns what a line `WORD NUMBER` sets for the next run: the most bytes of a read (`piece`) or
+/// of the input (`limit`), or the number of a call that fails (`read`, `write`). `None` for another
+/// word.
 pub fn setting_of(word: &str, number: u32) -> Option<Setting> {
     match word {
         "piece" => Some(Setting::Piece(number as usize)),
@@ -54,7 +56,8 @@ impl Given {
         }
     }
 
-    /// Sets what a line sets.
+    /// Sets the most bytes that a read returns or that the input has, or adds one more read or
+    /// write that fails.
     ///
     /// # Errors
     ///
@@ -70,7 +73,7 @@ impl Given {
     }
 }
 
-/// Appends a line to an input, with this line end.
+/// Appends a line and after it `end`, its line end, to an input.
 ///
 /// # Errors
 ///

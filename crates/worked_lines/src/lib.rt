@@ -35,11 +35,11 @@ pub trait Work {
 
 /// Scripts of several kinds of lines, each with a name.
 pub trait Scripts {
-    /// Whether a script has this name.
+    /// Whether one of the scripts has this name.
     fn has(&self, name: &str) -> bool;
 
-    /// Runs a line by the script with this name, or by the first script for another name, and
-    /// returns what to print for it.
+    /// Runs a line by the script with this name, or by the first script if none has the name, and
+    /// returns what to print for the line.
     ///
     /// # Errors
     ///
@@ -66,7 +66,7 @@ impl From<Oom> for Stop {
     }
 }
 
-/// Returns the exit status of a run: `FAILURE` if it ended before the last line.
+/// Returns the exit status of a run: `SUCCESS`, or `FAILURE` if it ended before the last line.
 pub fn status_of(run: Result<(), Stop>) -> ExitCode {
     match run {
         Ok(()) => ExitCode::SUCCESS,
@@ -74,14 +74,17 @@ pub fn status_of(run: Result<(), Stop>) -> ExitCode {
     }
 }
 
-/// Returns the name of the script that a line sets for the lines after it, or `None`.
+/// Returns the name of the script that a line `rows of NAME` sets for the lines after it. `None`
+/// for another line, or if no script has the name.
 fn script_named<'a, S: Scripts>(scripts: &S, line: &'a str) -> Option<&'a str> {
     let name = rows_named(line)?;
     if scripts.has(name) { Some(name) } else { None }
 }
 
-/// Runs each line of standard input by the script that was named last, and prints what it returns,
-/// until the first error. A line that names a script is printed unchanged.
+/// Runs each line of standard input by the script that was named last, or by the first one while
+/// none was named, and prints what the script returns. A line `rows of NAME` that names a script is
+/// printed unchanged. Errs with the first error, in reading, printing or memory, and the lines
+/// after it do not run.
 fn run<R: AllocGlobal + Input + Print, S: Scripts>(rt: &R, scripts: &mut S) -> Result<(), Stop> {
     let alloc = rt.alloc();
     let text = io::read_to_string(alloc, rt.reader())?;

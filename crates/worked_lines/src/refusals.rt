@@ -14,7 +14,7 @@ struct Named {
 
 impl Named {
     /// Returns the shared values: zone MDZ003, hazard WS.W, desk DESK9, and minute 10 since
-    /// 2000-01-01 00:00 UTC.
+    /// 2000-01-01 00:00 UTC. `None` only if one of them were not well formed.
     fn new() -> Option<Self> {
         let phen = Phen::new(*b"WS")?;
         Some(Named {
@@ -25,7 +25,7 @@ impl Named {
         })
     }
 
-    /// Returns the event of hazard WS.W with this event tracking number in 2018.
+    /// Returns the event of hazard WS.W with the event tracking number `etn` in the year 2018.
     fn event(&self, etn: u16) -> Event {
         Event {
             hazard: self.hazard,
@@ -35,8 +35,8 @@ impl Named {
     }
 }
 
-/// Returns the refusals of an HTTP call, and those of a request that concern its text, its desk,
-/// its number or the clock.
+/// Returns examples of the refusals of an HTTP call and of a request's text, desk, number or clock.
+/// `field` is the field in the `WrongShape`.
 fn of_calls(alloc: Global, field: Text) -> Result<Vec<Refusal>, Oom> {
     let last = 4_294_967_295;
     let refusals = vec![in alloc;
@@ -58,7 +58,7 @@ fn of_calls(alloc: Global, field: Text) -> Result<Vec<Refusal>, Oom> {
     Ok(refusals)
 }
 
-/// Returns the refusals that concern a draft or its intents.
+/// Returns examples of the refusals that concern a draft or its intents.
 fn of_drafts(alloc: Global, named: &Named) -> Result<Vec<Refusal>, Oom> {
     let owner = named.owner;
     let free_at = named.free_at;
@@ -74,8 +74,8 @@ fn of_drafts(alloc: Global, named: &Named) -> Result<Vec<Refusal>, Oom> {
     Ok(refusals)
 }
 
-/// Returns the refusals that concern a zone, a hazard, a category, a text or a product that a
-/// request names.
+/// Returns examples of the refusals that concern a zone, a hazard, a category, a text or a product
+/// that a request names. `field` is the field in the `BadText` and in the `TextTooLong`.
 fn of_names(alloc: Global, named: &Named, field: Text) -> Result<Vec<Refusal>, Oom> {
     let zone = named.zone;
     let long = field.clone()?;
@@ -92,7 +92,7 @@ fn of_names(alloc: Global, named: &Named, field: Text) -> Result<Vec<Refusal>, O
     Ok(refusals)
 }
 
-/// Returns the refusals that concern an event of a product.
+/// Returns examples of the refusals that concern an event of a product.
 fn of_events(alloc: Global, named: &Named) -> Result<Vec<Refusal>, Oom> {
     let zone = named.zone;
     let none = named.event(1);
@@ -117,7 +117,7 @@ fn of_events(alloc: Global, named: &Named) -> Result<Vec<Refusal>, Oom> {
     Ok(refusals)
 }
 
-/// Returns all other refusals of a product.
+/// Returns examples of all other refusals of a product.
 fn of_products(alloc: Global, named: &Named) -> Result<Vec<Refusal>, Oom> {
     let zone = named.zone;
     let hazard = named.hazard;
@@ -145,7 +145,8 @@ fn of_products(alloc: Global, named: &Named) -> Result<Vec<Refusal>, Oom> {
     Ok(refusals)
 }
 
-/// Returns the first refusal with this name, or `None`.
+/// Returns the first of the refusals whose name is `name`, such as `NoProduct`, or `None` if there
+/// is none.
 fn named_among(refusals: Vec<Refusal>, name: &str) -> Option<Refusal> {
     for refusal in refusals {
         if refusal.label().1 == name {
@@ -155,8 +156,9 @@ fn named_among(refusals: Vec<Refusal>, name: &str) -> Option<Refusal> {
     None
 }
 
-/// Returns the example of the refusal with this name, or `None` if there is no such name. The field
-/// in a `WrongShape` is `?`, the one in a `BadText` or `TextTooLong` is `what`.
+/// Returns the example of the refusal with this name, such as `NoProduct`, or `None` if there is no
+/// such name. The field in a `WrongShape` is `?`, the one in a `BadText` or `TextTooLong` is
+/// `what`.
 ///
 /// # Errors
 ///

@@ -20,7 +20,7 @@ pub fn unread(alloc: Global, line: &str) -> Result<String, Oom> {
     Ok(format!(in alloc; "unread: {line}\n")?)
 }
 
-/// Returns the words of a line, as white space separates them.
+/// Returns the words of a line, which white space separates, in order.
 ///
 /// # Errors
 ///
@@ -33,7 +33,8 @@ pub fn words_of(alloc: Global, line: &str) -> Result<List<Text>, Oom> {
     Ok(words)
 }
 
-/// Returns the numbers of a line, or `None` if a word is not a number of 64 bits.
+/// Returns the decimal numbers of a line, which white space separates, in order. `None` if a word
+/// is no number below 2^64.
 ///
 /// # Errors
 ///
@@ -49,7 +50,8 @@ pub fn numbers_of(alloc: Global, line: &str) -> Result<Option<List<u64>>, Oom> {
     Ok(Some(numbers))
 }
 
-/// Returns N, at most `MOST_TIMES`, and LINE for a line `times N LINE`, or 1 and the whole line.
+/// Returns N, or 100,000 if N is greater, and LINE for a line `times N LINE`, where N is a decimal
+/// number below 2^32. For any other line it returns 1 and the whole line.
 pub fn times_of(line: &str) -> (u32, &str) {
     let Some((times, repeated)) = line
         .strip_prefix("times ")
@@ -63,7 +65,7 @@ pub fn times_of(line: &str) -> (u32, &str) {
     }
 }
 
-/// Returns the bytes as text, or `?` if they are not UTF-8.
+/// Returns the bytes as text, or `?` if they are not UTF-8 as a whole.
 pub fn text_of(bytes: &[u8]) -> &str {
     str::from_utf8(bytes).unwrap_or("?")
 }
@@ -77,7 +79,7 @@ pub fn shown(alloc: Global, bytes: &[u8]) -> Result<String, Oom> {
     Ok(String::from_utf8_lossy(alloc, bytes)?)
 }
 
-/// Returns a text, with U+FFFD in place of what is not UTF-8, and then a line with an exit status.
+/// Returns a text, with U+FFFD in place of what is not UTF-8, and then the line `status STATUS`.
 ///
 /// # Errors
 ///

@@ -22,12 +22,13 @@ struct Script<'a> {
 }
 
 impl Scripts for Script<'_> {
-    /// Whether a kind of lines has this name.
+    /// Whether there is a script with this name, `office` or `outside`.
     fn has(&self, name: &str) -> bool {
         matches!(name, "office" | "outside")
     }
 
-    /// Returns what the script of a kind prints for a line.
+    /// Returns what to print for a line, which runs in the script `outside`, or for any other name
+    /// in that of an office.
     fn work_as(&mut self, alloc: Global, name: &str, line: &str) -> Result<String, Oom> {
         match name {
             "outside" => self.outside.work(alloc, line),
@@ -36,6 +37,10 @@ impl Scripts for Script<'_> {
     }
 }
 
+/// Runs each line of standard input by the script that a line `rows of office` or `rows of outside`
+/// named last, or by that of an office before such a line, and prints what it returns. The exit
+/// status is `FAILURE` at the first error in reading, printing or memory, and the lines after it do
+/// not run.
 fn main(rt: HostRuntime) -> ExitCode {
     let script = Script {
         office: Office::new(rt.alloc()),

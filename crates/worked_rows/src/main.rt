@@ -24,12 +24,13 @@ struct Script {
 }
 
 impl Scripts for Script {
-    /// Whether a kind of lines has this name.
+    /// Whether lines have a kind of this name: `steps`, `board` or `archive`.
     fn has(&self, name: &str) -> bool {
         matches!(name, "steps" | "board" | "archive")
     }
 
-    /// Returns what the script of a kind prints for a line.
+    /// Does a line in the script `board` or `archive`, or for any other name in `steps`, and
+    /// returns what is printed for it.
     fn work_as(&mut self, alloc: Global, name: &str, line: &str) -> Result<String, Oom> {
         match name {
             "board" => self.board.work(alloc, line),
@@ -39,6 +40,8 @@ impl Scripts for Script {
     }
 }
 
+/// Runs each line of standard input by its script and prints what it returns. The exit status is
+/// `FAILURE` at the first error in reading, printing or memory.
 fn main(rt: HostRuntime) -> ExitCode {
     let alloc = rt.alloc();
     let script = Script {

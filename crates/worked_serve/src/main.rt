@@ -30,7 +30,8 @@ enum Rows {
 }
 
 impl Rows {
-    /// Returns the kind with this name, or `None`.
+    /// Returns the kind of lines with this name, `serve`, `follow` or `turns`, or `None` for
+    /// another name.
     fn of(name: &str) -> Option<Self> {
         match name {
             "serve" => Some(Rows::Serve),
@@ -41,9 +42,9 @@ impl Rows {
     }
 }
 
-/// Runs each line of standard input and prints what its script returns, until the first error; a
-/// line that sets the kind is printed unchanged. Serving over threads is no method of `Work`, so
-/// `work_lines` is of no use here.
+/// Runs each line of standard input by the script of its kind, and prints what the script returns.
+/// A line `rows of NAME` that sets the kind is printed unchanged. Errs with the first error, in
+/// reading, printing or memory, and the lines after it do not run.
 fn run<
     R: AllocGlobal
         + Input
@@ -76,6 +77,8 @@ fn run<
     Ok(())
 }
 
+/// Runs the lines of standard input, and returns `FAILURE` if an error ended the run before the
+/// last one.
 fn main(rt: HostRuntime) -> ExitCode {
     status_of(run(&rt))
 }

@@ -15,7 +15,7 @@ use std::alloc::Global;
 use std::sync::Wait;
 use std::thread::Threads;
 
-/// Returns a disk with this file and no fault.
+/// Returns a disk in memory with this file, on which no call fails.
 ///
 /// # Errors
 ///
@@ -24,7 +24,8 @@ pub fn disk_of(alloc: Global, file: &[u8]) -> Result<MemDisk, Oom> {
     MemDisk::new(alloc, file, &List::new(alloc), None, 0)
 }
 
-/// Returns a clock with these readings, in minutes since 2000-01-01 00:00 UTC.
+/// Returns a clock with these readings, in order, in minutes since 2000-01-01 00:00 UTC; the last
+/// is repeated. There must be one at least.
 ///
 /// # Errors
 ///
@@ -35,8 +36,8 @@ pub fn clock_of(readings: &List<i64>) -> Result<SetClock, Oom>
     SetClock::new(readings)
 }
 
-/// Returns a link that has these bytes, in pieces of at most `piece`, and on which these calls
-/// fail.
+/// Returns a link in memory on which these bytes come, at most `piece` of them a read. `failing`
+/// are the numbers, from 1, of its calls that fail, reads and writes counted together.
 ///
 /// # Errors
 ///
@@ -54,7 +55,7 @@ pub fn link_of(
     Ok(link)
 }
 
-/// Returns an output on which these writes fail.
+/// Returns an output in memory on which the writes with the numbers in `failing`, from 1, fail.
 ///
 /// # Errors
 ///
@@ -63,8 +64,9 @@ pub fn output_of(alloc: Global, failing: &List<u64>) -> Result<MemSink, Oom> {
     MemSink::new(alloc, failing)
 }
 
-/// Returns the journal of a new office that was created on this disk, or `None` if the office was
-/// not created, as on a disk that is not fresh or with settings that have a fault.
+/// Returns the journal of a new office that this call creates on a disk, with `settings`, the text
+/// of its settings' file. `None` if the office was not created, as on a disk that is not fresh or
+/// with settings that have a fault.
 ///
 /// # Errors
 ///
@@ -76,7 +78,8 @@ pub fn journal_of(alloc: Global, disk: MemDisk, settings: &[u8]) -> Result<Optio
     }
 }
 
-/// Returns the number of requests of the office with this journal, or `None` if it is no journal.
+/// Returns the number of requests that the office with this journal has accepted. `None` if the
+/// bytes are no office's journal, or memory runs out while they are read.
 ///
 /// # Errors
 ///
@@ -85,7 +88,9 @@ pub fn requests_of(alloc: Global, journal: &[u8]) -> Result<Option<u64>, Oom> {
     Ok(requests_in(alloc, disk_of(alloc, journal)?))
 }
 
-/// Serves a link over the office on a disk. Returns `None` if the disk has no office.
+/// Serves the calls on a link by the office on a disk, and returns how the link ended, the number
+/// of requests of the office, and the disk. `None` if no office can be opened: the disk has no
+/// office's journal, or while it is opened a call of the disk fails or memory runs out.
 ///
 /// # Errors
 ///
@@ -100,7 +105,10 @@ pub fn serve_link<R: Wait>(
     offices::serve_link(rt, alloc, disk, link, clock)
 }
 
-/// Serves a port over the office on a disk.
+/// Serves a port by the office on a disk, as the command `serve` does, and returns the exit status
+/// and the disk. `means` has the threads, the memory, the clock and the gate that the calls pass,
+/// `serving` the port number and the numbers of workers and connections, and `output` gets what the
+/// program writes. No link of the port must have been returned before.
 pub fn serve_port<R: Threads + Wait + Sync, P: Port, G: Gate + Sync>(
     means: &Means<'_, R, SetClock, G>,
     serving: &Serving,

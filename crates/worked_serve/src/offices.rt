@@ -18,8 +18,9 @@ use std::thread::Threads;
 use turn_lock::{Pass, TurnLock};
 use warn_serve::{self, LinkEnd};
 
-/// Returns the disk of a new office, or `None` if the office was not created, as on a disk that is
-/// not fresh or with settings that have a fault.
+/// Creates a new office with `settings`, the text of its settings' file, on a disk, and returns the
+/// disk, which then has its journal. `None` if the office was not created: the disk is not fresh,
+/// the settings have a fault, a call of the disk fails, or memory runs out.
 pub fn created<D: Disk + Drop>(alloc: Global, disk: D, settings: &[u8]) -> Option<D> {
     match KeptOffice::create(alloc, disk, settings) {
         Ok(kept) => Some(kept.into_disk()),
@@ -27,7 +28,8 @@ pub fn created<D: Disk + Drop>(alloc: Global, disk: D, settings: &[u8]) -> Optio
     }
 }
 
-/// Returns the office on a disk, or `None` if it has none.
+/// Returns the office of the journal on a disk. `None` if the disk has no office's journal, a call
+/// of the disk fails, or memory runs out.
 fn opened<D: Disk + Drop>(alloc: Global, disk: D) -> Option<KeptOffice<D>> {
     match KeptOffice::adopt(alloc, disk) {
         Ok(kept) => Some(kept),
@@ -35,12 +37,14 @@ fn opened<D: Disk + Drop>(alloc: Global, disk: D) -> Option<KeptOffice<D>> {
     }
 }
 
-/// Returns the number of requests of the office on a disk, or `None` if it has none.
+/// Returns the number of requests that the office on a disk has accepted. `None` if the disk has no
+/// office's journal, a call of the disk fails, or memory runs out.
 pub fn requests_in<D: Disk + Drop>(alloc: Global, disk: D) -> Option<u64> {
     Some(opened(alloc, disk)?.entries())
 }
 
-/// Returns a lock over an office, and its whole pass, or `None` if memory runs out.
+/// Returns a lock over an office, at which threads take turns, and a pass for its turns with all of
+/// its 1,024 shares. `None` if memory runs out.
 fn started<D: Disk + Drop>(
     alloc: Global,
     kept: KeptOffice<D>,
@@ -54,7 +58,8 @@ fn started<D: Disk + Drop>(
     }
 }
 
-/// Serves a link.
+/// Serves the calls on a link by the office that is in `lock`, and returns how the link ended.
+/// `pass`, which gives the right to turns, must be of this lock; it keeps its shares.
 fn served<R: Wait, D: Disk, L: Link, C: Clock>(
     rt: &R,
     alloc: Global,
@@ -69,7 +74,8 @@ fn served<R: Wait, D: Disk, L: Link, C: Clock>(
     warn_serve::serve_link(rt, alloc, lock, pass, link, clock, &OpenGate)
 }
 
-/// Returns the office of a lock.
+/// Ends a lock and returns the office in it. `pass`, which gives the right to turns, must be of
+/// this lock and have all of its 1,024 shares.
 fn closed<D: Disk>(lock: TurnLock<SharedOffice<D>>, pass: Pass<SharedOffice<D>>) -> KeptOffice<D>
     requires lock { pass.lock ≡ lock }
     requires shares { pass.shares ≡ 1024 }
@@ -77,8 +83,8 @@ fn closed<D: Disk>(lock: TurnLock<SharedOffice<D>>, pass: Pass<SharedOffice<D>>)
     lock.close(pass).into_kept()
 }
 
-/// Serves a link over an office, and returns the office and how the link ended. `None` if memory
-/// runs out before that.
+/// Serves the calls on a link by the office `kept`, and returns the office and how the link ended.
+/// `None` if memory runs out before the first call.
 fn serve_one<R: Wait, D: Disk + Drop, L: Link, C: Clock>(
     rt: &R,
     alloc: Global,
@@ -100,7 +106,9 @@ pub struct Left<D> {
     pub disk: D,
 }
 
-/// Serves a link over the office on a disk. Returns `None` if the disk has no office.
+/// Serves the calls on a link by the office on a disk. Returns how the link ended, the number of
+/// requests of the office, and the disk, or `None` if no office could be opened: the disk has no
+/// office's journal, a call of it fails, or memory runs out.
 ///
 /// # Errors
 ///
@@ -125,7 +133,10 @@ pub fn serve_link<R: Wait, D: Disk + Drop, L: Link, C: Clock>(
     }))
 }
 
-/// Serves a port over the office on a disk.
+/// Serves a port by the office on a disk, as the command `serve` does, and returns the exit status
+/// and the disk. `means` has the threads, the memory, the clock and the gate that the calls pass,
+/// `serving` the port number and the numbers of workers and connections, and `output` gets what the
+/// program writes. No link of the port must have been returned before.
 pub fn serve_port<
     R: Threads + Wait + Sync,
     K: Sink,

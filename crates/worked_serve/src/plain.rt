@@ -2,8 +2,8 @@
 use hazard_types::{Oom, Text};
 use worked_lines::add_line;
 
-/// Appends the bytes of a line `head LINE`, with CR and LF, or `bytes BYTES`, and returns whether
-/// the word is one of these.
+/// Appends the bytes of a line of a script, and returns true: `rest` with CR and LF if `word` is
+/// `head`, and `rest` alone if it is `bytes`. Returns false for another word, and appends nothing.
 ///
 /// # Errors
 ///

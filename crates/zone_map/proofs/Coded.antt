@@ -10,7 +10,7 @@ use Rattle.std.proofs.lemmas.Bool.Decides.{nat_tests}
 use Rattle.hazard_types.specs.Places.{Place, IsPlace, is_capital, kind_rank, by_place}
 use Rattle.hazard_types.specs.declared.zone.Kind.{Kind}
 use Rattle.hazard_types.specs.declared.zone.Kind.TheVariants.{C, Z}
-use Rattle.zone_map.specs.Codes.{code_of, kind_of, place_of, code_back}
+use Rattle.zone_map.specs.Codes.{code_of, kind_of, find_index, code_back}
 
 -- ---- from the number to the zone and back
 
@@ -58,7 +58,7 @@ low_letters a b n h = (grind (arith, nat_tests), grind (arith, nat_tests))
 pub low : (p : Place) → IsPlace p → AreLow p
 low p h = let both = low_letters (slice_index p.state 0) (slice_index p.state 1) p.number h.0 in record { second = both.0; number = both.1 }
 
-pub place_back : (p : Place) → IsPlace p → place_of (code_of p) ≡ p
+pub place_back : (p : Place) → IsPlace p → find_index (code_of p) ≡ p
 place_back p h =
     let bound = low p h in
     let x = parts (slice_index p.state 0) (slice_index p.state 1) (kind_rank p.kind) p.number bound.second (rank_low p.kind) bound.number in
@@ -124,6 +124,6 @@ order p q hp hq =
     ∙ three (slice_cmp nat_cmp p.state q.state) (nat_cmp k l) (nat_cmp p.number q.number)
 
 -- of two numbers whose places are these
-pub order_of : (c d : ℕ) → IsPlace (place_of c) → IsPlace (place_of d) → nat_cmp c d ≡ by_place (place_of c) (place_of d)
+pub order_of : (c d : ℕ) → IsPlace (find_index c) → IsPlace (find_index d) → nat_cmp c d ≡ by_place (find_index c) (find_index d)
 order_of c d hc hd =
-    ap (λ (n : ℕ). nat_cmp n d) (sym (code_back c)) ∙ ap (nat_cmp (code_of (place_of c))) (sym (code_back d)) ∙ order (place_of c) (place_of d) hc hd
+    ap (λ (n : ℕ). nat_cmp n d) (sym (code_back c)) ∙ ap (nat_cmp (code_of (find_index c))) (sym (code_back d)) ∙ order (find_index c) (find_index d) hc hd

@@ -11,7 +11,7 @@ use Rattle.std.proofs.lemmas.List.{take_more}
 use Rattle.hazard_types.specs.Places.{Place, by_place}
 use Rattle.hazard_types.proofs.OrderLaws.{by_place_total}
 use Rattle.hazard_types.proofs.Sorted.{rising, none_ties}
-use Rattle.zone_map.specs.Rising.{stands_at, is_seat}
+use Rattle.zone_map.specs.Rising.{is_entry_at, is_seat}
 use Rattle.zone_map.proofs.Seated.{IsBehind, put_behind}
 
 turned_eq : (o : Ordering) → is_eq (ordering_reverse o) ≡ is_eq o
@@ -27,12 +27,12 @@ module _ {V : Type 0} where
   no_tie z [] each = refl
   no_tie z (e ∷ es) each = rw (turned e.0 z ∙ each 0 e (omega arith)) (no_tie z es (λ k d lt. each (suc k) d (omega arith)))
 
-  tied : (z : Place) (es : List (Place × V)) (i : ℕ) → i < length es → ((d : Place × V) → by_place (get_or es i d).0 z ≡ Equal) → stands_at es i z ≡ true
+  tied : (z : Place) (es : List (Place × V)) (i : ℕ) → i < length es → ((d : Place × V) → by_place (get_or es i d).0 z ≡ Equal) → is_entry_at es i z ≡ true
   tied z [] i lt tie = absurd (omega arith)
   tied z (e ∷ es) zero lt tie = turned e.0 z ∙ ap is_eq (tie e)
   tied z (e ∷ es) (suc i) lt tie = tied z es i (omega arith) tie
 
-  pub searched : (z : Place) (es : List (Place × V)) (i : ℕ) → i < length es → IsBinarySearchResult (λ (e : Place × V). by_place e.0 z) es (Ok i) → stands_at es i z ≡ true
+  pub searched : (z : Place) (es : List (Place × V)) (i : ℕ) → i < length es → IsBinarySearchResult (λ (e : Place × V). by_place e.0 z) es (Ok i) → is_entry_at es i z ≡ true
   searched z es i lt there = tied z es i lt there
 
   pub missed : (z : Place) (es : List (Place × V)) (i : ℕ) → IsStrictlySortedBy by_place (keys_of es) → IsBinarySearchResult (λ (e : Place × V). by_place e.0 z) es (Err i) → lookup (is_at (by_place z)) es ≡ None

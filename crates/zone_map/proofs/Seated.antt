@@ -10,7 +10,7 @@ use Rattle.std.specs.List.Sorted.{IsStrictlySortedBy}
 use Rattle.std.specs.Map.{keys_of, lookup}
 use Rattle.hazard_types.specs.Places.{Place, by_place}
 use Rattle.hazard_types.proofs.OrderLaws.{by_place_total, by_place_ties}
-use Rattle.zone_map.specs.Rising.{stands_at, is_behind_last, is_behind, is_seat}
+use Rattle.zone_map.specs.Rising.{is_entry_at, is_behind_last, comes_after_all, is_seat}
 
 equal_is : (o : Ordering) → is_eq o ≡ true → o ≡ Equal
 equal_is Less h = cc
@@ -47,23 +47,23 @@ low_too z p (q ∷ ps) low all = (by_place_total.trans z p q low all.0, low_too 
 
 module _ {V : Type 0} where
   -- a zone that stands among others which are all behind one
-  behind_first : (p z : Place) (es : List (Place × V)) (i : ℕ) → AllByRecursion (λ (y : Place). by_place p y ≡ Less) (keys_of es) → stands_at es i z ≡ true → by_place p z ≡ Less
+  behind_first : (p z : Place) (es : List (Place × V)) (i : ℕ) → AllByRecursion (λ (y : Place). by_place p y ≡ Less) (keys_of es) → is_entry_at es i z ≡ true → by_place p z ≡ Less
   behind_first p z [] i all h = cc
   behind_first p z (e ∷ es) zero all h = let one : z ≡ e.0 = by_place_ties z e.0 (equal_is (by_place z e.0) h) in subst (λ (q : Place). by_place p q ≡ Less) (sym one) all.0
   behind_first p z (e ∷ es) (suc i) all h = behind_first p z es i all.1 h
 
-  pub within : (z : Place) (es : List (Place × V)) (i : ℕ) → stands_at es i z ≡ true → i < length es
+  pub within : (z : Place) (es : List (Place × V)) (i : ℕ) → is_entry_at es i z ≡ true → i < length es
   within z [] i h = cc
   within z (e ∷ es) zero h = omega arith
   within z (e ∷ es) (suc i) h = let more = within z es i h in omega (arith, more)
 
-  pub found : (z : Place) (es : List (Place × V)) (i : ℕ) (d : Place × V) → IsStrictlySortedBy by_place (keys_of es) → stands_at es i z ≡ true → Some (get_or es i d).1 ≡ lookup (is_at (by_place z)) es
+  pub found : (z : Place) (es : List (Place × V)) (i : ℕ) (d : Place × V) → IsStrictlySortedBy by_place (keys_of es) → is_entry_at es i z ≡ true → Some (get_or es i d).1 ≡ lookup (is_at (by_place z)) es
   unfolding IsStrictlySortedBy
   found z [] i d up h = cc
   found z (e ∷ es) zero d up h = rw h refl
   found z (e ∷ es) (suc i) d up h = rw (behind_is e.0 z (behind_first e.0 z es i up.0 h)) (found z es i d up.1 h)
 
-  pub put : (z : Place) (v : V) (es : List (Place × V)) (i : ℕ) → IsStrictlySortedBy by_place (keys_of es) → stands_at es i z ≡ true → slice_set es i (z, v) ≡ insert_entry by_place es z v
+  pub put : (z : Place) (v : V) (es : List (Place × V)) (i : ℕ) → IsStrictlySortedBy by_place (keys_of es) → is_entry_at es i z ≡ true → slice_set es i (z, v) ≡ insert_entry by_place es z v
   unfolding IsStrictlySortedBy
   put z v [] i up h = cc
   put z v (e ∷ es) zero up h =
@@ -71,12 +71,12 @@ module _ {V : Type 0} where
       rw tied (ap (λ (q : Place). (q, v) ∷ es) (by_place_ties z e.0 tied))
   put z v (e ∷ es) (suc i) up h = rw (behind_is e.0 z (behind_first e.0 z es i up.0 h)) (ap (λ (rest : List (Place × V)). e ∷ rest) (put z v es i up.1 h))
 
-  pub keys-set : (z : Place) (v : V) (es : List (Place × V)) (i : ℕ) → stands_at es i z ≡ true → keys_of (slice_set es i (z, v)) ≡ keys_of es
+  pub keys-set : (z : Place) (v : V) (es : List (Place × V)) (i : ℕ) → is_entry_at es i z ≡ true → keys_of (slice_set es i (z, v)) ≡ keys_of es
   keys-set z v [] i h = cc
   keys-set z v (e ∷ es) zero h = ap (λ (q : Place). q ∷ keys_of es) (by_place_ties z e.0 (equal_is (by_place z e.0) h))
   keys-set z v (e ∷ es) (suc i) h = ap (λ (ks : List Place). e.0 ∷ ks) (keys-set z v es i h)
 
-  pub put-sorted : (z : Place) (v : V) (es : List (Place × V)) (i : ℕ) → IsStrictlySortedBy by_place (keys_of es) → stands_at es i z ≡ true → IsStrictlySortedBy by_place (keys_of (slice_set es i (z, v)))
+  pub put-sorted : (z : Place) (v : V) (es : List (Place × V)) (i : ℕ) → IsStrictlySortedBy by_place (keys_of es) → is_entry_at es i z ≡ true → IsStrictlySortedBy by_place (keys_of (slice_set es i (z, v)))
   put-sorted z v es i up h = subst (λ (ks : List Place). IsStrictlySortedBy by_place ks) (sym (keys-set z v es i h)) up
 
   -- behind the last
@@ -84,13 +84,13 @@ module _ {V : Type 0} where
   abbrev pub IsBehind : Place → List (Place × V) → Type 0
   IsBehind z es = AllByRecursion (λ (q : Place). by_place q z ≡ Less) (keys_of es)
 
-  pub behind_all : (z : Place) (es : List (Place × V)) → IsStrictlySortedBy by_place (keys_of es) → is_behind es z ≡ true → IsBehind z es
+  pub behind_all : (z : Place) (es : List (Place × V)) → IsStrictlySortedBy by_place (keys_of es) → comes_after_all es z ≡ true → IsBehind z es
   unfolding IsStrictlySortedBy
   behind_all z [] up h = tt
   behind_all z (x ∷ []) up h = (less_is (by_place x.0 z) h, tt)
   behind_all z (x ∷ y ∷ ys) up h =
       let e : length (x ∷ y ∷ ys) - 1 ≡ suc (length (y ∷ ys) - 1) = omega arith in
-      let h' : is_behind (y ∷ ys) z ≡ true = subst (λ (k : ℕ). is_behind_last (slice_get (x ∷ y ∷ ys) k) z ≡ true) e h in
+      let h' : comes_after_all (y ∷ ys) z ≡ true = subst (λ (k : ℕ). is_behind_last (slice_get (x ∷ y ∷ ys) k) z ≡ true) e h in
       let rest = behind_all z (y ∷ ys) up.1 h' in
       (by_place_total.trans x.0 y.0 z up.0.0 rest.0, rest)
 
@@ -104,7 +104,7 @@ module _ {V : Type 0} where
   seat_last z [] all = refl
   seat_last z (e ∷ es) all = rw all.0 (seat_last z es all.1)
 
-  pub seat_there : (z : Place) (es : List (Place × V)) (i : ℕ) → IsStrictlySortedBy by_place (keys_of es) → stands_at es i z ≡ true → is_seat es i z ≡ true
+  pub seat_there : (z : Place) (es : List (Place × V)) (i : ℕ) → IsStrictlySortedBy by_place (keys_of es) → is_entry_at es i z ≡ true → is_seat es i z ≡ true
   unfolding IsStrictlySortedBy
   seat_there z [] i up h = cc
   seat_there z (e ∷ es) zero up h = rw (equal_back e.0 z h) refl
@@ -116,7 +116,7 @@ module _ {V : Type 0} where
   seat_within z (e ∷ es) zero h = omega arith
   seat_within z (e ∷ es) (suc i) h = let more = seat_within z es i (both (is_lt (by_place e.0 z)) (is_seat es i z) h).1 in omega (arith, more)
 
-  pub inserted : (z : Place) (v : V) (es : List (Place × V)) (i : ℕ) → is_seat es i z ≡ true → stands_at es i z ≡ false → insert es i (z, v) ≡ insert_entry by_place es z v
+  pub inserted : (z : Place) (v : V) (es : List (Place × V)) (i : ℕ) → is_seat es i z ≡ true → is_entry_at es i z ≡ false → insert es i (z, v) ≡ insert_entry by_place es z v
   inserted z v [] zero h n = refl
   inserted z v [] (suc i) h n = cc
   inserted z v (e ∷ es) zero h n = rw (before_is e.0 z h n) refl
@@ -129,7 +129,7 @@ module _ {V : Type 0} where
   none_before z p [] low all = refl
   none_before z p (e ∷ es) low all = rw (by_place_total.trans z p e.0 low all.0) (none_before z p es low all.1)
 
-  pub none_there : (z : Place) (es : List (Place × V)) (i : ℕ) → IsStrictlySortedBy by_place (keys_of es) → is_seat es i z ≡ true → stands_at es i z ≡ false → None ≡ lookup (is_at (by_place z)) es
+  pub none_there : (z : Place) (es : List (Place × V)) (i : ℕ) → IsStrictlySortedBy by_place (keys_of es) → is_seat es i z ≡ true → is_entry_at es i z ≡ false → None ≡ lookup (is_at (by_place z)) es
   unfolding IsStrictlySortedBy
   none_there z [] i up h n = refl
   none_there z (e ∷ es) zero up h n = let low = before_is e.0 z h n in rw low (none_before z e.0 es low up.0)

@@ -14,8 +14,8 @@ code_of p = ((slice_index p.state 0 * 256 + slice_index p.state 1) * 2 + kind_ra
 abbrev pub kind_of : ℕ → Kind
 kind_of n = if n == 0 then C else Z
 
-abbrev pub place_of : ℕ → Place
-place_of c = record { state = c / 1024 / 2 / 256 ∷ c / 1024 / 2 % 256 ∷ []; kind = kind_of (c / 1024 % 2); number = c % 1024 }
+abbrev pub find_index : ℕ → Place
+find_index c = record { state = c / 1024 / 2 / 256 ∷ c / 1024 / 2 % 256 ∷ []; kind = kind_of (c / 1024 % 2); number = c % 1024 }
 
 -- the number of a place that a number tells is that number
 
@@ -24,7 +24,7 @@ rank_back zero lt = refl
 rank_back (suc zero) lt = refl
 rank_back (suc (suc n)) lt = absurd (omega arith)
 
-pub code_back : (c : ℕ) → code_of (place_of c) ≡ c
+pub code_back : (c : ℕ) → code_of (find_index c) ≡ c
 code_back c =
     ap (λ (x : ℕ). (x * 2 + kind_rank (kind_of (c / 1024 % 2))) * 1024 + c % 1024) (div-add-mod' (c / 1024 / 2) 256)
     ∙ ap (λ (x : ℕ). (c / 1024 / 2 * 2 + x) * 1024 + c % 1024) (rank_back (c / 1024 % 2) (mod-lt (c / 1024) (omega arith)))

@@ -10,16 +10,16 @@ module _ {V : Type 0} where
   is_there (Some e) z = is_at (by_place z) e.0
 
   -- a zone stands at a place
-  abbrev pub stands_at : List (Place × V) → ℕ → Place → Bool
-  stands_at es place z = is_there (slice_get es place) z
+  abbrev pub is_entry_at : List (Place × V) → ℕ → Place → Bool
+  is_entry_at es place z = is_there (slice_get es place) z
 
   abbrev pub is_behind_last : Option (Place × V) → Place → Bool
   is_behind_last None z = true
   is_behind_last (Some last) z = is_lt (by_place last.0 z)
 
   -- a zone is behind the last of these
-  abbrev pub is_behind : List (Place × V) → Place → Bool
-  is_behind es z = is_behind_last (slice_get es (length es - 1)) z
+  abbrev pub comes_after_all : List (Place × V) → Place → Bool
+  comes_after_all es z = is_behind_last (slice_get es (length es - 1)) z
 
   -- the zone is behind those before a place, and not behind the one there, if there is one
   abbrev pub is_seat : List (Place × V) → ℕ → Place → Bool

@@ -5,7 +5,7 @@ ghost use Rattle.std.specs.Ordering.{as_partial_cmp, eq_by_cmp};
 ghost use Rattle.std.proofs.lemmas.Cmp.{eq_by_cmp_equiv};
 ghost use Rattle.hazard_types.specs.Places.{by_place, kind_rank, IsPlace};
 ghost use Rattle.hazard_types.proofs.OrderLaws.{by_place_total};
-ghost use Rattle.zone_map.specs.Codes.{code_of, place_of};
+ghost use Rattle.zone_map.specs.Codes.{code_of, find_index};
 
 use hazard_types::{Kind, Zone};
 use std::cmp::Ordering;
@@ -19,20 +19,20 @@ pub struct ZoneCode {
 
 impl Model for ZoneCode {
     ghost use Rattle.hazard_types.specs.Places.{Place, IsPlace};
-    ghost use Rattle.zone_map.specs.Codes.{code_of, place_of, code_back};
+    ghost use Rattle.zone_map.specs.Codes.{code_of, find_index, code_back};
 
     ghost Value = { Place };
 
-    ghost view = { λ z. place_of z.code };
+    ghost view = { λ z. find_index z.code };
 
-    ghost invariant = { λ z. IsPlace (place_of z.code) };
+    ghost invariant = { λ z. IsPlace (find_index z.code) };
 
     ghost inverse = { λ p. record { code = code_of p } };
 
     ghost inverse_ok = { λ z h. λ i. record { code = code_back z.code i } };
 }
 
-/// Returns 0 for counties, which come first, and 1 for public zones.
+/// Returns the place of a kind of zone in the order of kinds: 0 for counties, 1 for public zones.
 fn kind_rank(kind: Kind) -> u32
     ensures { result ≡ kind_rank kind }
 {
@@ -42,7 +42,8 @@ fn kind_rank(kind: Kind) -> u32
     }
 }
 
-/// Returns the number of a zone: its letters, a bit for its kind, and ten bits for its number.
+/// Returns the number that stands for a zone, from the highest bit on: 16 bits for the state's two
+/// letters, one for the kind, ten for the zone's number. The numbers are in the order of the zones.
 fn code_of(zone: &Zone) -> u32
     ensures value { result ≡ code_of zone.now }
     ensures place { IsPlace zone.now }
@@ -53,7 +54,7 @@ fn code_of(zone: &Zone) -> u32
 }
 
 impl ZoneCode {
-    /// Returns the number of a zone.
+    /// Returns the code of a zone.
     pub fn new(zone: &Zone) -> Self
         ensures { result ≡ zone.now }
     {
@@ -62,7 +63,7 @@ impl ZoneCode {
         }
     }
 
-    /// Returns the zone of the number.
+    /// Returns the zone that has this code.
     pub fn zone(&self) -> Zone
         ensures { result ≡ self.now }
     {

@@ -36,7 +36,8 @@ impl<V> Model for ZoneMap<V> {
     ghost invariant = { λ m. AreKept m.rising m.others.entries };
 }
 
-/// Sets the value of a zone in the tree. `before` becomes the value before, if there was one.
+/// Sets the value of a zone in the tree `others`. `before` becomes the value that the zone had, or
+/// `None` if it had none.
 fn set_among<V: Copy>(
     others: &mut BTreeMap<ZoneCode, V>,
     zone: ZoneCode,
@@ -52,7 +53,8 @@ fn set_among<V: Copy>(
     Ok(())
 }
 
-/// Inserts entries, which are in order, into an empty tree.
+/// Adds the entries of `list`, which must be in the order of zones, to the tree `others`, which
+/// must be empty. If memory runs out, some may be added.
 fn insert_all<V: Copy>(
     others: &mut BTreeMap<ZoneCode, V>,
     list: &[(ZoneCode, V)],
@@ -69,7 +71,8 @@ fn insert_all<V: Copy>(
     Ok(())
 }
 
-/// Moves the entries of the list into the tree, if there is a list.
+/// Moves the entries of the list `rising`, if it is not `None`, into the tree `others`, which is
+/// empty then; `rising` is `None` afterwards. If memory runs out, entries may be lost.
 fn move_to_tree<V: Copy>(
     rising: &mut Option<Vec<(ZoneCode, V)>>,
     others: &mut BTreeMap<ZoneCode, V>,
@@ -85,7 +88,7 @@ fn move_to_tree<V: Copy>(
     }
 }
 
-/// Returns the entries of the list.
+/// Returns the entries of the list, in its order, each with its zone in place of the code.
 fn entries_in<V: Copy>(alloc: Global, list: &[(ZoneCode, V)]) -> Result<List<(Zone, V)>, Oom>
     ensures { IfOk result (λ entries. entries ≡ list.now) }
 {
@@ -96,7 +99,7 @@ fn entries_in<V: Copy>(alloc: Global, list: &[(ZoneCode, V)]) -> Result<List<(Zo
     Ok(List::from_vec(entries))
 }
 
-/// Returns the entries of the tree, in order.
+/// Returns the entries of the tree, in the order of zones, each with its zone in place of the code.
 fn listed<V: Copy>(alloc: Global, others: &BTreeMap<ZoneCode, V>) -> Result<List<(Zone, V)>, Oom>
     ensures { IfOk result (λ list. list ≡ others.now.entries) }
 {
@@ -107,7 +110,7 @@ fn listed<V: Copy>(alloc: Global, others: &BTreeMap<ZoneCode, V>) -> Result<List
     Ok(List::from_vec(list))
 }
 
-/// Returns the value of the first zone of the tree.
+/// Returns the value of the first zone of the tree, or `None` if the tree is empty.
 fn first_among<V: Copy>(others: &BTreeMap<ZoneCode, V>) -> Option<V>
     ensures { result ≡ option_map (λ e. e.1) (slice_get others.now.entries 0) }
 {
@@ -129,8 +132,9 @@ impl<V: Copy> ZoneMap<V> {
         }
     }
 
-    /// Returns the value at a zone. `near` is a guess of its index, and becomes the index after it
-    /// if the zone is found in the list; so it is right if zones are asked for in order.
+    /// Returns the value at a zone, or `None` if it has none. `near` is a guess of the zone's index
+    /// in the order of zones, on which the result does not depend; if the zone is found in the
+    /// sorted list, it becomes the next index. So it is right if zones are asked for in order.
     pub fn get(&self, near: &mut usize, zone: &Zone) -> Option<V>
         ensures value { result ≡ lookup (is_at (by_place zone.now)) self.now }
         ensures order { IsStrictlySortedBy by_place (keys_of self.now) }
@@ -142,8 +146,8 @@ impl<V: Copy> ZoneMap<V> {
         }
     }
 
-    /// Sets the value at a zone. `before` becomes the value before, if there was one. When it
-    /// fails, values of other zones may be lost.
+    /// Sets the value at a zone. `before` becomes the value that the zone had, or `None` if it had
+    /// none. On an error, values of other zones may be lost.
     ///
     /// # Errors
     ///
@@ -164,7 +168,7 @@ impl<V: Copy> ZoneMap<V> {
         set_among(&mut self.others, code, value, before)
     }
 
-    /// Returns the value at the first zone.
+    /// Returns the value at the first zone, or `None` if the map is empty.
     pub fn first(&self) -> Option<V>
         ensures { result ≡ option_map (λ e. e.1) (slice_get self.now 0) }
     {
@@ -189,7 +193,7 @@ impl<V: Copy> ZoneMap<V> {
         }
     }
 
-    /// Removes all entries.
+    /// Removes all entries. From then on entries are in a tree.
     pub fn clear(&mut self)
         ensures { self.new ≡ [] }
     {

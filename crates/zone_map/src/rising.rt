@@ -4,7 +4,7 @@ ghost use Rattle.std.specs.BTreeMap.{insert_entry, is_at};
 ghost use Rattle.std.specs.List.Sorted.{IsStrictlySortedBy};
 ghost use Rattle.std.specs.Map.{keys_of, lookup};
 ghost use Rattle.hazard_types.specs.Places.{by_place};
-ghost use Rattle.zone_map.specs.Rising.{is_behind, is_seat, stands_at};
+ghost use Rattle.zone_map.specs.Rising.{comes_after_all, is_seat, is_entry_at};
 
 use crate::code::ZoneCode;
 use hazard_types::Oom;
@@ -12,9 +12,9 @@ use hazard_types::Oom;
 /// How many entries are moved at most for a new one that comes before them.
 const FEW: usize = 64;
 
-/// Whether the entry at index `place` is that of the zone.
-fn stands_at<V: Copy>(list: &[(ZoneCode, V)], place: usize, zone: &ZoneCode) -> bool
-    ensures { result ≡ stands_at list.now place zone.now }
+/// Whether `list` has an entry at index `place` and it is that of the zone.
+fn is_entry_at<V: Copy>(list: &[(ZoneCode, V)], place: usize, zone: &ZoneCode) -> bool
+    ensures { result ≡ is_entry_at list.now place zone.now }
 {
     match list.get(place) {
         Some(entry) => zone.cmp(&entry.0).is_eq(),
@@ -22,13 +22,14 @@ fn stands_at<V: Copy>(list: &[(ZoneCode, V)], place: usize, zone: &ZoneCode) -> 
     }
 }
 
-/// Returns the index of a zone's entry. `near` is a guess.
-fn place_of<V: Copy>(list: &[(ZoneCode, V)], near: usize, zone: &ZoneCode) -> Option<usize>
+/// Returns the index of a zone's entry in `list`, which must be in the order of zones, or `None` if
+/// it has none. `near` is a guess of the index, which is tried first.
+fn find_index<V: Copy>(list: &[(ZoneCode, V)], near: usize, zone: &ZoneCode) -> Option<usize>
     requires { IsStrictlySortedBy by_place (keys_of list.now) }
     ensures { MatchOption result (lookup (is_at (by_place zone.now)) list.now ≡ None)
-        (λ place. stands_at list.now place zone.now ≡ true) }
+        (λ place. is_entry_at list.now place zone.now ≡ true) }
 {
-    if stands_at(list, near, zone) {
+    if is_entry_at(list, near, zone) {
         return Some(near);
     }
     match list.binary_search_by_key(zone, |entry| entry.0) {
@@ -37,13 +38,14 @@ fn place_of<V: Copy>(list: &[(ZoneCode, V)], near: usize, zone: &ZoneCode) -> Op
     }
 }
 
-/// Returns the value of a zone. `near` is a guess of its index, and becomes the index after it if
-/// the zone is found.
+/// Returns the value of a zone in `list`, which must be in the order of zones, or `None` if it has
+/// none. `near` is a guess of the index of its entry, which is tried first, and becomes the index
+/// after the entry if there is one.
 pub fn value_near<V: Copy>(list: &[(ZoneCode, V)], near: &mut usize, zone: &ZoneCode) -> Option<V>
     requires { IsStrictlySortedBy by_place (keys_of list.now) }
     ensures { result ≡ lookup (is_at (by_place zone.now)) list.now }
 {
-    match place_of(list, *near, zone) {
+    match find_index(list, *near, zone) {
         Some(place) => {
             *near = place.saturating_add(1);
             Some(list[place].1)
@@ -52,9 +54,10 @@ pub fn value_near<V: Copy>(list: &[(ZoneCode, V)], near: &mut usize, zone: &Zone
     }
 }
 
-/// Whether a zone comes after the last entry.
-fn is_behind<V: Copy>(list: &[(ZoneCode, V)], zone: &ZoneCode) -> bool
-    ensures { result ≡ is_behind list.now zone.now }
+/// Whether a zone comes after the zone of the last entry of `list`, which is in the order of zones,
+/// or `list` is empty.
+fn comes_after_all<V: Copy>(list: &[(ZoneCode, V)], zone: &ZoneCode) -> bool
+    ensures { result ≡ comes_after_all list.now zone.now }
 {
     match list.last() {
         Some(last) => last.0.cmp(zone).is_lt(),
@@ -62,17 +65,18 @@ fn is_behind<V: Copy>(list: &[(ZoneCode, V)], zone: &ZoneCode) -> bool
     }
 }
 
-/// Returns the index of a zone's entry, or the index at which it is to be inserted. `near` is a
-/// guess.
+/// Returns the index of a zone's entry in `list`, which must be in the order of zones, or the index
+/// at which the entry belongs if the zone has none. `near` is a guess of the index, which is tried
+/// first.
 pub fn seat_of<V: Copy>(list: &[(ZoneCode, V)], near: usize, zone: &ZoneCode) -> usize
     requires { IsStrictlySortedBy by_place (keys_of list.now) }
     ensures seat { is_seat list.now result zone.now ≡ true }
     ensures within { result ≤ length list.now }
 {
-    if stands_at(list, near, zone) {
+    if is_entry_at(list, near, zone) {
         return near;
     }
-    if is_behind(list, zone) {
+    if comes_after_all(list, zone) {
         return list.len();
     }
     match list.binary_search_by_key(zone, |entry| entry.0) {
@@ -81,15 +85,18 @@ pub fn seat_of<V: Copy>(list: &[(ZoneCode, V)], near: usize, zone: &ZoneCode) ->
     }
 }
 
-/// Whether the zone has its entry at `seat`, or at most 64 entries would be moved for it.
+/// Whether the zone's entry in `list` is at index `seat`, or at most 64 entries are at `seat` or
+/// after it, which would move if it were inserted there. `seat` must be the length of `list` or
+/// less.
 pub fn has_room<V: Copy>(list: &[(ZoneCode, V)], seat: usize, zone: &ZoneCode) -> bool
     requires { seat ≤ length list.now }
 {
-    list.len() - seat <= FEW || stands_at(list, seat, zone)
+    list.len() - seat <= FEW || is_entry_at(list, seat, zone)
 }
 
-/// Sets the value of a zone, whose entry is or belongs at index `seat`. `before` becomes the value
-/// before, if there was one.
+/// Sets the value of a zone in `list`, which must be in the order of zones. `seat` must be the
+/// index of the zone's entry, or that at which the entry belongs and is inserted if there is none.
+/// `before` becomes the value that the zone had, or `None` if it had none.
 ///
 /// # Errors
 ///
@@ -109,7 +116,7 @@ pub fn set_at<V: Copy>(
     ensures before { OnOk result (before.new ≡ lookup (is_at (by_place zone.now)) list.old.items) }
     ensures sorted { IsStrictlySortedBy by_place (keys_of list.new.items) }
 {
-    if stands_at(list, seat, zone) {
+    if is_entry_at(list, seat, zone) {
         *before = Some(list[seat].1);
         list[seat] = (*zone, value);
         return Ok(());

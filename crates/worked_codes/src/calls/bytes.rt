@@ -34,7 +34,8 @@ pub fn hex_byte(high: u8, low: u8) -> u8 {
     (hex_value(high) << 4) | hex_value(low)
 }
 
-/// Returns the byte that a backslash and this letter write.
+/// Returns the byte that a backslash and this byte write: CR for `r`, LF for `n`, a tab for `t`,
+/// and any other byte itself.
 fn escaped(letter: u8) -> u8 {
     match letter {
         b'r' => b'\r',
@@ -44,7 +45,9 @@ fn escaped(letter: u8) -> u8 {
     }
 }
 
-/// Appends the bytes that a piece writes.
+/// Appends the bytes that a piece of a script's text writes. A backslash and `r`, `n` or `t` write
+/// CR, LF or a tab, `\x` and two hex digits the byte of this value, and a backslash and any other
+/// byte that byte. An escape that the piece ends in writes nothing.
 fn push_piece(out: &mut Text, piece: &[u8]) -> Result<(), Oom> {
     let mut escape = Escape::Outside;
     for byte in piece {
@@ -75,7 +78,8 @@ fn push_piece(out: &mut Text, piece: &[u8]) -> Result<(), Oom> {
     Ok(())
 }
 
-/// Returns N, at most `MOST_TIMES`, and REST for a piece `N*REST`, or 1 and the whole piece.
+/// Returns how often a piece is written, and what of it: N, but at most 100,000, and REST for a
+/// piece `N*REST` with a number N, else 1 and the whole piece.
 fn times_of(piece: &str) -> (u32, &str) {
     match piece.split_once('*') {
         Some((times, rest)) => match times.parse::<u32>() {
@@ -86,7 +90,10 @@ fn times_of(piece: &str) -> (u32, &str) {
     }
 }
 
-/// Returns the bytes that a script's text writes.
+/// Returns the bytes that a script's text writes: pieces with `|` between them. A piece `N*REST`
+/// with a number N writes REST N times, but at most 100,000 times. A backslash before `r`, `n` or
+/// `t` writes CR, LF or a tab, before `x` and two hex digits the byte of this value, and before any
+/// other byte that byte.
 ///
 /// # Errors
 ///
@@ -102,8 +109,8 @@ pub fn bytes_of(alloc: Global, text: &str) -> Result<Text, Oom> {
     Ok(out)
 }
 
-/// Appends a byte as printed: CR, LF and backslash as their escapes, other bytes outside ASCII's
-/// printable range as `\?`.
+/// Appends a byte as printed: CR, LF and backslash as their escapes, a byte outside of printable
+/// ASCII as `\?`, any other as it is.
 fn push_shown(out: &mut String, byte: u8) -> Result<(), AllocError> {
     match byte {
         b'\r' => out.push_str("\\r"),
@@ -114,7 +121,8 @@ fn push_shown(out: &mut String, byte: u8) -> Result<(), AllocError> {
     }
 }
 
-/// Returns the bytes as printed, with escapes.
+/// Returns the bytes as printed: CR, LF and backslash as their escapes, bytes outside of printable
+/// ASCII as `\?`.
 ///
 /// # Errors
 ///

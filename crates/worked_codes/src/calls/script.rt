@@ -9,7 +9,8 @@ use warn_http::{
 };
 use worked_lines::{Work, refusal_named};
 
-/// Returns in words what a call asks for; a post has the range of bytes of its body.
+/// Returns in words what a call asks for, as `look product 1`; a post has the range of the bytes of
+/// its body, as `post 40..60`.
 fn call_text(alloc: Global, call: Call) -> Result<String, AllocError> {
     match call {
         Call::Post(span) => {
@@ -27,7 +28,9 @@ fn call_text(alloc: Global, call: Call) -> Result<String, AllocError> {
     }
 }
 
-/// Returns in words what was read at the start of the bytes.
+/// Returns in words what was read at the start of some bytes: a call with the number of bytes that
+/// it takes, and `last` if no call may follow it, or `more` if the call is not whole, `refused`
+/// with the name of the refusal, or `out of memory`.
 fn read_text(alloc: Global, read: &HttpRead) -> Result<String, AllocError> {
     match read {
         HttpRead::Call { call, used, last } => {
@@ -44,16 +47,18 @@ fn read_text(alloc: Global, read: &HttpRead) -> Result<String, AllocError> {
     }
 }
 
-/// Returns how many bytes a call uses, or `None` if it is the last or no call was read.
-fn goes_on(read: &HttpRead) -> Option<usize> {
+/// Returns the number of bytes that a call takes if another call may follow it, or `None` if it is
+/// the last one or no call was read.
+fn used_unless_last(read: &HttpRead) -> Option<usize> {
     match read {
         HttpRead::Call { used, last, .. } => { if *last { None } else { Some(*used) } }
         _ => None,
     }
 }
 
-/// Returns in words the calls at the start of the bytes, one after another, to the first that ends
-/// the stream. After 10,000 calls it stops, with `spent`.
+/// Returns in words, with commas between them, what is read at the start of the bytes, then after
+/// the first call, and so on, up to the last call or the first that can't be read. After 10,000
+/// calls it stops, with `spent`.
 fn stream_text(alloc: Global, routes: &Routes, bytes: &[u8]) -> Result<String, AllocError> {
     let mut text = String::new(alloc);
     let mut left = bytes;
@@ -61,7 +66,7 @@ fn stream_text(alloc: Global, routes: &Routes, bytes: &[u8]) -> Result<String, A
         let read = read_call(alloc, routes, left);
         let answer = read_text(alloc, &read)?;
         text.push_str(answer.as_str())?;
-        let Some(used) = goes_on(&read) else {
+        let Some(used) = used_unless_last(&read) else {
             return Ok(text);
         };
         text.push_str(", ")?;
@@ -71,8 +76,10 @@ fn stream_text(alloc: Global, routes: &Routes, bytes: &[u8]) -> Result<String, A
     Ok(text)
 }
 
-/// Returns the bytes of the answer that the words STATUS KIND LAST BODY describe, or `None` if they
-/// describe none.
+/// Returns the bytes of the HTTP answer that the words `STATUS KIND LAST BODY` describe, or `None`
+/// if STATUS is no status that the desk answers with or KIND is neither `json` nor `plain`. The
+/// answer has `Connection: close` if LAST is `last`. BODY, which may be absent, has the pieces and
+/// escapes of a script's bytes.
 fn answer_text(alloc: Global, words: &str) -> Result<Option<Text>, Oom> {
     let Some((status, words)) = words.split_once(' ') else {
         return Ok(None);
@@ -116,7 +123,8 @@ impl Script {
 }
 
 impl Work for Script {
-    /// Returns what is printed for a line; any other line is returned unchanged.
+    /// Returns what to print for a line `read`, `stream`, `answer` or `status`, with an LF:
+    /// `unread: ` and the line if its words are wrong. Any other line is returned unchanged.
     fn work(&mut self, alloc: Global, line: &str) -> Result<String, Oom> {
         match line.split_once(' ') {
             Some(("read", text)) => {

@@ -9,8 +9,8 @@ use ugc_codes::{UgcFault, read_ugc, write_ugc};
 use vtec_string::read_vtec;
 use worked_lines::{Work, text_of};
 
-/// Returns the values of a P-VTEC string and the string written from them, or that the text is
-/// none.
+/// Returns a line with the values of a P-VTEC string and one with the string written from them, or
+/// the line `no P-VTEC text` if `text` is not one.
 fn vtec_answer(alloc: Global, text: &str) -> Result<String, AllocError> {
     let mut out = String::new(alloc);
     match read_vtec(text.as_bytes()) {
@@ -23,8 +23,8 @@ fn vtec_answer(alloc: Global, text: &str) -> Result<String, AllocError> {
     Ok(out)
 }
 
-/// Returns the values of an H-VTEC string and the string written from them, or that the text is
-/// none.
+/// Returns a line with the values of an H-VTEC string and one with the string written from them, or
+/// the line `no H-VTEC text` if `text` is not one.
 fn hvtec_answer(alloc: Global, text: &str) -> Result<String, AllocError> {
     let mut out = String::new(alloc);
     match read_hvtec(text.as_bytes()) {
@@ -37,8 +37,8 @@ fn hvtec_answer(alloc: Global, text: &str) -> Result<String, AllocError> {
     Ok(out)
 }
 
-/// Returns the bytes of a text in which `\n` is LF, `\r` is CR, and a backslash before any other
-/// byte is that byte.
+/// Returns the bytes of a text in which a backslash before `n` or `r` writes LF or CR, and before
+/// any other byte that byte. A backslash that ends the text writes nothing.
 ///
 /// # Errors
 ///
@@ -64,8 +64,10 @@ pub fn bytes_of(alloc: Global, text: &str) -> Result<Text, Oom> {
     Ok(out)
 }
 
-/// Returns the number of bytes that a UGC string takes, its zones, and the string written from them
-/// and the expiry, or its fault with the place of the byte.
+/// Returns a line with the number of bytes of the UGC string that `text` starts with and its zones,
+/// and then the string as it is written from the zones and the expiry. If `text` starts with none,
+/// it is one line with the first fault and the index of its byte, or `CutShort`, which has no byte.
+/// In `text` a backslash before `n` or `r` writes LF or CR, and before any other byte that byte.
 fn ugc_answer(alloc: Global, text: &str) -> Result<String, Oom> {
     let bytes = bytes_of(alloc, text)?;
     let mut out = String::new(alloc);
@@ -90,7 +92,7 @@ fn ugc_answer(alloc: Global, text: &str) -> Result<String, Oom> {
     Ok(out)
 }
 
-/// Appends the P-VTEC string of a pair and its H-VTEC string, if any, each on a line.
+/// Appends a line with the P-VTEC string of a pair, and one with its H-VTEC string, if it has one.
 fn push_pair(out: &mut String, pair: &Pair) -> Result<(), AllocError> {
     push_vtec_text(out, &pair.vtec)?;
     match &pair.flood {
@@ -139,7 +141,8 @@ fn push_frame(out: &mut String, frame: &Frame) -> Result<(), AllocError> {
     Ok(())
 }
 
-/// Appends the name of a fault, with the number of its line where it has one.
+/// Appends a line `fault` with the name of a frame's fault, and the number of the text's line where
+/// it is, if the fault has one.
 fn push_fault(out: &mut String, fault: FrameFault) -> Result<(), AllocError> {
     match fault {
         FrameFault::NoHeading => out.push_str("fault NoHeading\n"),
@@ -152,7 +155,9 @@ fn push_fault(out: &mut String, fault: FrameFault) -> Result<(), AllocError> {
     }
 }
 
-/// Returns the frame of a product's text, or its first fault.
+/// Returns the values of the frame of a product's text (heading, identifier, issue time, segments)
+/// in lines, or a line with its first fault. In `text` a backslash before `n` or `r` writes LF or
+/// CR, and before any other byte that byte.
 fn frame_answer(alloc: Global, text: &str) -> Result<String, Oom> {
     let bytes = bytes_of(alloc, text)?;
     let mut out = String::new(alloc);
@@ -164,7 +169,9 @@ fn frame_answer(alloc: Global, text: &str) -> Result<String, Oom> {
     Ok(out)
 }
 
-/// Returns the range of bytes of each product in a text.
+/// Returns a line `products` with the range of the bytes of each product in a text, as `0-120`, the
+/// end excluded. In `text` a backslash before `n` or `r` writes LF or CR, and before any other byte
+/// that byte.
 fn split_answer(alloc: Global, text: &str) -> Result<String, Oom> {
     let bytes = bytes_of(alloc, text)?;
     let spans = split_products(alloc, bytes.as_slice())?;
@@ -183,7 +190,8 @@ fn split_answer(alloc: Global, text: &str) -> Result<String, Oom> {
 pub struct Codes;
 
 impl Work for Codes {
-    /// Returns what the reader that the first word names reads in the rest of the line.
+    /// Returns what the reader that the first word names, as `vtec`, reads in the rest of the line,
+    /// or `no reader` if there is no such reader.
     fn work(&mut self, alloc: Global, line: &str) -> Result<String, Oom> {
         let (reader, text) = line.split_once(' ').unwrap_or((line, ""));
         match reader {

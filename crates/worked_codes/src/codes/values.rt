@@ -6,7 +6,8 @@ use std::alloc::AllocError;
 use vtec_string::vtec_text;
 use worked_lines::text_of;
 
-/// Appends a blank and a time.
+/// Appends a blank and the minutes of a time since 2000-01-01T00:00Z, or a blank and a hyphen for
+/// `None`.
 fn push_time(out: &mut String, time: Option<Minute>) -> Result<(), AllocError> {
     match time {
         Some(minute) => {
@@ -17,7 +18,8 @@ fn push_time(out: &mut String, time: Option<Minute>) -> Result<(), AllocError> {
     }
 }
 
-/// Appends the values of a P-VTEC string, on a line.
+/// Appends a line with the values of a P-VTEC string, in the order of the string. Times are minutes
+/// since 2000-01-01T00:00Z, or a hyphen for zeros.
 ///
 /// # Errors
 ///
@@ -36,7 +38,8 @@ pub fn push_vtec(out: &mut String, v: &Vtec) -> Result<(), AllocError> {
     out.push('\n')
 }
 
-/// Appends the values of an H-VTEC string, on a line.
+/// Appends a line with the values of an H-VTEC string, in the order of the string. Times are
+/// minutes since 2000-01-01T00:00Z, or a hyphen for zeros.
 ///
 /// # Errors
 ///
@@ -54,8 +57,9 @@ pub fn push_flood(out: &mut String, h: &Flood) -> Result<(), AllocError> {
     writeln!(out, " {status:?}")
 }
 
-/// Appends the P-VTEC string of these values, on a line, or that they have none: their office is
-/// not an office's code, or their event tracking number has more than four digits.
+/// Appends a line with the P-VTEC string of these values. If their office is not an office's code,
+/// or their event tracking number has more than four digits, it is the line `no values of a P-VTEC
+/// text`.
 ///
 /// # Errors
 ///
@@ -69,8 +73,8 @@ pub fn push_vtec_text(out: &mut String, v: &Vtec) -> Result<(), AllocError> {
     out.push('\n')
 }
 
-/// Appends the H-VTEC string of these values, on a line, or that they have none: their site is not
-/// a location's code.
+/// Appends a line with the H-VTEC string of these values. If their site is not a location's code,
+/// it is the line `no values of an H-VTEC text`.
 ///
 /// # Errors
 ///

@@ -14,7 +14,9 @@ enum Escape {
     Behind(u8),
 }
 
-/// Returns the bytes that a script's text writes.
+/// Returns the bytes that a script's text writes: `~` and two hex digits, `0` to `9` or `a` to `f`,
+/// are one byte, any other byte is itself. A byte after `~` that is no hex digit counts as 0, and
+/// an escape that the text ends in writes nothing.
 ///
 /// # Errors
 ///
@@ -42,7 +44,7 @@ pub fn bytes_of(alloc: Global, text: &str) -> Result<Text, Oom> {
     Ok(out)
 }
 
-/// Returns the JSON of empty arrays, one in another, `depth` deep.
+/// Returns the JSON of empty arrays, one in another, `depth` deep: `[[]]` for 2, no bytes for 0.
 ///
 /// # Errors
 ///

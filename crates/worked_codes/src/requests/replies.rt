@@ -1,9 +1,9 @@
 //! Examples of replies, by name, and of drafts.
-use hazard_types::{Category, Event, Hazard, List, Minute, Oom, Phen, Sig, read_stamp};
+use hazard_types::{Category, Event, Hazard, List, Minute, Oom, Phen, Sig, parse_stamp};
 use office_types::{Desk, Draft, Intent, Reply, Request, SentReply, Word};
 use std::alloc::Global;
 
-/// Returns the event of hazard WS.W with this event tracking number in 2018.
+/// Returns the event of hazard WS.W with this event tracking number in 2018. `None` does not occur.
 fn event(etn: u16) -> Option<Event> {
     let phen = Phen::new(*b"WS")?;
     let hazard = Hazard { phen, sig: Sig::W };
@@ -14,9 +14,10 @@ fn event(etn: u16) -> Option<Event> {
     })
 }
 
-/// Returns the reply to a send whose product opens events 1 to `count`.
+/// Returns the reply to a `send` of product 1, at 2018-01-03 15:30 UTC, that opens the events WS.W
+/// 1 to `count` of 2018. `None` does not occur.
 fn sent(alloc: Global, count: u16) -> Result<Option<Reply>, Oom> {
-    let Some(time) = read_stamp(b"180103T1530Z") else {
+    let Some(time) = parse_stamp(b"180103T1530Z") else {
         return Ok(None);
     };
     let mut events = List::new(alloc);
@@ -33,7 +34,8 @@ fn sent(alloc: Global, count: u16) -> Result<Option<Reply>, Oom> {
     })))
 }
 
-/// Returns the example of the reply with this name, or `None` if there is no such name.
+/// Returns the example of a reply with this name, as `open` or `send two`, or `None` if no example
+/// has this name.
 ///
 /// # Errors
 ///
@@ -53,7 +55,8 @@ pub fn reply_named(alloc: Global, name: &str) -> Result<Option<Reply>, Oom> {
     Ok(Some(reply))
 }
 
-/// Returns the intent that a request puts into a draft, or `None` if it puts none.
+/// Returns the intent that a request adds to a draft, or that an issue has for its own product, or
+/// `None` for any other request.
 fn intent_of(request: Request) -> Option<Intent> {
     match request {
         Request::Issue(part) => Some(Intent::Put(part)),
@@ -65,7 +68,9 @@ fn intent_of(request: Request) -> Option<Intent> {
     }
 }
 
-/// Returns a WSW draft of a desk, with the intent of a request, if it has one.
+/// Returns draft 1, of category WSW, with the intent of `request` as its only one, or without
+/// intents if the request has none. `owner` is the desk that owns it, and `touched` the minute of
+/// the last request on it.
 ///
 /// # Errors
 ///

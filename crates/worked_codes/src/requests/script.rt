@@ -10,7 +10,8 @@ use request_json::{
 use std::alloc::Global;
 use worked_lines::{Work, refusal_named, shown};
 
-/// Returns the canonical text of a request, or the text of its refusal.
+/// Returns the canonical JSON text of the request whose JSON the bytes are, or the JSON text of the
+/// refusal if they are no request.
 fn read(alloc: Global, bytes: &[u8]) -> Result<Text, Oom> {
     match read_request(alloc, bytes) {
         Ok(asked) => request_text(alloc, &asked),
@@ -19,8 +20,8 @@ fn read(alloc: Global, bytes: &[u8]) -> Result<Text, Oom> {
     }
 }
 
-/// Returns the canonical text of the issue that a training line describes, as desk A's first
-/// request, or the text of the line's refusal.
+/// Returns the canonical JSON text of the issue that a training line describes, as request 1 of
+/// desk A, or the JSON text of the refusal if the bytes are no such line.
 fn train(alloc: Global, bytes: &[u8]) -> Result<Text, Oom> {
     match read_training_issue(alloc, bytes) {
         Ok(part) => match Desk::new(b"A") {
@@ -39,7 +40,9 @@ fn train(alloc: Global, bytes: &[u8]) -> Result<Text, Oom> {
     }
 }
 
-/// Returns the text of a draft with the intent of a request, or the text of the request's refusal.
+/// Returns the JSON text of draft 1, with the intent of the request whose JSON the bytes are, of
+/// the request's desk, and with minute 9,471,810 as that of the last request on it. It is the JSON
+/// text of the refusal if the bytes are no request.
 fn draft(alloc: Global, bytes: &[u8]) -> Result<Text, Oom> {
     match read_request(alloc, bytes) {
         Ok(asked) => {
@@ -54,7 +57,8 @@ fn draft(alloc: Global, bytes: &[u8]) -> Result<Text, Oom> {
     }
 }
 
-/// Returns the text of the refusal with this name; empty if there is none.
+/// Returns the JSON text of the example of the refusal with this name; empty if there is no such
+/// name.
 fn refused(alloc: Global, name: &str) -> Result<Text, Oom> {
     match refusal_named(alloc, name)? {
         Some(refusal) => refusal_text(alloc, &refusal),
@@ -62,7 +66,8 @@ fn refused(alloc: Global, name: &str) -> Result<Text, Oom> {
     }
 }
 
-/// Returns the words for people of the refusal with this name; empty if there is none.
+/// Returns the words that people are shown for the example of the refusal with this name; empty if
+/// there is no such name.
 fn worded(alloc: Global, name: &str) -> Result<Text, Oom> {
     match refusal_named(alloc, name)? {
         Some(refusal) => {
@@ -73,7 +78,8 @@ fn worded(alloc: Global, name: &str) -> Result<Text, Oom> {
     }
 }
 
-/// Returns the text of the reply with this name; empty if there is none.
+/// Returns the JSON text of the example of the reply with this name; empty if there is no such
+/// name.
 fn replied(alloc: Global, name: &str) -> Result<Text, Oom> {
     match reply_named(alloc, name)? {
         Some(reply) => reply_text(alloc, &reply),
@@ -81,7 +87,10 @@ fn replied(alloc: Global, name: &str) -> Result<Text, Oom> {
     }
 }
 
-/// Returns what is printed for a line, without a line end; any other line is returned unchanged.
+/// Returns what to print for a line, without an LF. After `read`, `training` and `draft` the line
+/// has the bytes of a JSON text, with `~` and two hex digits for any byte; after `depth` how many
+/// empty arrays, one in another, are read; after `refusal`, `words` and `reply` the name of an
+/// example; after `fault` `disk` or `memory`. Any other line is returned unchanged.
 fn answer(alloc: Global, line: &str) -> Result<Text, Oom> {
     match line.split_once(' ') {
         Some(("read", text)) => {
@@ -114,7 +123,9 @@ fn answer(alloc: Global, line: &str) -> Result<Text, Oom> {
 pub struct Script;
 
 impl Work for Script {
-    /// Returns what is printed for a line.
+    /// Returns what to print for a line, with an LF. Its first word says what the rest of it is, as
+    /// `read` or `reply`; a line with no such word is returned unchanged. Bytes that are not UTF-8
+    /// become U+FFFD.
     fn work(&mut self, alloc: Global, line: &str) -> Result<String, Oom> {
         let text = answer(alloc, line)?;
         let mut told = shown(alloc, text.as_slice())?;

@@ -14,8 +14,8 @@ use worked_lines::{Work, text_of};
 /// What is printed for a line that the script cannot read.
 const UNREAD: &str = "unread";
 
-/// Returns what comes before the first blank, and what comes after it, which is empty if there is
-/// no blank.
+/// Returns what comes before the first blank of a line, and what comes after it. Without a blank it
+/// is the whole line and an empty text.
 pub fn parted(line: &str) -> (&str, &str) {
     match line.split_once(' ') {
         Some((front, rest)) => (front, rest),
@@ -23,8 +23,9 @@ pub fn parted(line: &str) -> (&str, &str) {
     }
 }
 
-/// Returns the headline of a segment's line, or `None` if its hazard has no name, or it is an EXP
-/// line until further notice.
+/// Returns the headline of the segment's line in `said`, in a product of its minute, with local
+/// times of its zone. It is `None` if the desk does not issue the line's hazard, or if the line is
+/// an EXP line until further notice.
 fn headline_answer(alloc: Global, said: &Said) -> Result<Option<Text>, Oom> {
     let hazard = said.line.event.hazard;
     if name_of(hazard).is_none() {
@@ -37,7 +38,8 @@ fn headline_answer(alloc: Global, said: &Said) -> Result<Option<Text>, Oom> {
     Ok(Some(text))
 }
 
-/// Returns the lines that `name_lines` makes of names with commas between them.
+/// Returns the names of zones in `rest`, which has commas between them, as a product prints them:
+/// each with a hyphen after it, on lines of at most 66 characters, unless one name is longer.
 fn names_answer(alloc: Global, rest: &str) -> Result<Text, Oom> {
     let mut names = Vec::new(alloc);
     for name in rest.split(',') {
@@ -46,7 +48,10 @@ fn names_answer(alloc: Global, rest: &str) -> Result<Text, Oom> {
     name_lines(alloc, names.as_slice())
 }
 
-/// Appends what is printed for a line of texts.
+/// Appends what to print for a command with the words `rest`: the text wrapped for `wrap`, the
+/// lines of zone names for `names`, the headline of a segment's line for `headline`, its WHEN
+/// bullet for `when`. It appends `unread` for any other command, or if the words can't be read or
+/// have no headline.
 fn push_text(out: &mut String, alloc: Global, command: &str, rest: &str) -> Result<(), Oom> {
     let text = match command {
         "wrap" => Some(wrapped(alloc, rest.as_bytes())?),
@@ -68,8 +73,9 @@ fn push_text(out: &mut String, alloc: Global, command: &str, rest: &str) -> Resu
     Ok(())
 }
 
-/// Appends what is printed for a line of settings or of a product, and returns whether the line is
-/// one.
+/// Appends what to print for the command `settings`, `filled`, `zones`, `zone`, `desk`, `heading`,
+/// `training` or `product` with the words `rest`, and returns `true`. For any other command it
+/// appends nothing and returns `false`.
 fn push_settings(out: &mut String, alloc: Global, command: &str, rest: &str) -> Result<bool, Oom> {
     let (word, more) = parted(rest);
     match command {
@@ -91,7 +97,8 @@ fn push_settings(out: &mut String, alloc: Global, command: &str, rest: &str) -> 
 pub struct Texts;
 
 impl Work for Texts {
-    /// Returns what is printed for a line.
+    /// Returns what to print for a line, whose first word is its command, with an LF; `unread` for
+    /// a line that can't be read.
     fn work(&mut self, alloc: Global, line: &str) -> Result<String, Oom> {
         let mut out = String::new(alloc);
         let (command, rest) = parted(line);

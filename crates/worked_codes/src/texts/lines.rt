@@ -1,8 +1,8 @@
 //! Lines of segments as a script writes them.
 use desk_settings::local_zone_in;
 use hazard_types::{
-    Action, End, Event, LocalZone, Minute, SegLine, actions, find, hazard_in, parse_event,
-    read_stamp,
+    Action, End, Event, LocalZone, Minute, SegLine, actions, find, parse_event, parse_hazard,
+    parse_stamp,
 };
 
 /// A begin that has passed, or an end until further notice.
@@ -16,12 +16,13 @@ pub struct Said {
     pub t: Minute,
 }
 
-/// Returns the minute of a stamp, or `None` if the word is no stamp.
+/// Returns the minute of a stamp such as `180103T1530Z`, or `None` if the word is no stamp.
 fn minute_of(word: &str) -> Option<Minute> {
-    read_stamp(word.as_bytes())
+    parse_stamp(word.as_bytes())
 }
 
-/// Returns the begin, or `None` if the word is no stamp and not zeros.
+/// Returns the minute of a stamp, `Some(None)` for `000000T0000Z`, a begin that has passed, or
+/// `None` if the word is neither.
 fn begin_of(word: &str) -> Option<Option<Minute>> {
     if word == ZEROS {
         return Some(None);
@@ -29,7 +30,8 @@ fn begin_of(word: &str) -> Option<Option<Minute>> {
     minute_of(word).map(Some)
 }
 
-/// Returns the end, or `None` if the word is no stamp and not zeros.
+/// Returns the end at a stamp, as `180103T1530Z`, or `End::Ufn`, until further notice, for
+/// `000000T0000Z`. It is `None` if the word is neither.
 fn end_of(word: &str) -> Option<End> {
     if word == ZEROS {
         return Some(End::Ufn);
@@ -37,7 +39,8 @@ fn end_of(word: &str) -> Option<End> {
     minute_of(word).map(End::At)
 }
 
-/// Returns a line without flood values.
+/// Returns the line of a segment with these values and no H-VTEC values. `begin` is `None` if the
+/// begin has passed.
 fn line_of(action: Action, event: Event, begin: Option<Minute>, end: End) -> SegLine {
     SegLine {
         action,
@@ -48,10 +51,11 @@ fn line_of(action: Action, event: Event, begin: Option<Minute>, end: End) -> Seg
     }
 }
 
-/// Returns the event of a routine line, whose event tracking number is 0, or `None`.
+/// Returns the event of a routine line, as `WS.W.0000.2018`, whose event tracking number is 0, or
+/// `None` if the word is not such an event.
 fn routine_of(word: &str) -> Option<Event> {
     let (hazard, year) = word.split_once(".0000.")?;
-    let hazard = hazard_in(hazard.as_bytes())?;
+    let hazard = parse_hazard(hazard.as_bytes())?;
     let year = year.parse::<u16>().ok()?;
     Some(Event {
         hazard,
@@ -60,7 +64,8 @@ fn routine_of(word: &str) -> Option<Event> {
     })
 }
 
-/// Returns the event of a word, as `WS.W.0001.2018`, or `None`.
+/// Returns the event of a word, as `WS.W.0001.2018`, or `None` if the word is no event. The event
+/// tracking number may be 0000.
 fn event_of(word: &str) -> Option<Event> {
     match parse_event(word.as_bytes()) {
         Some(event) => Some(event),
@@ -68,8 +73,9 @@ fn event_of(word: &str) -> Option<Event> {
     }
 }
 
-/// Returns the line of the words `ACTION EVENT BEGIN END ZONE STAMP`, or `None` if they are not
-/// such words.
+/// Returns the segment's line, the local zone and the product's minute of the words `ACTION EVENT
+/// BEGIN END ZONE STAMP`, or `None` if they are not such words. BEGIN and END are stamps or
+/// `000000T0000Z`, for a begin that has passed and an end until further notice.
 pub fn read_line(words: &str) -> Option<Said> {
     let mut words = words.split_whitespace();
     let action = find(&actions(), words.next()?.as_bytes())?;

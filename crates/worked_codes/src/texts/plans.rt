@@ -1,5 +1,5 @@
 //! Plans of one segment with one line, and the test that a product text can be written of them.
-ghost use Rattle.std.specs.Prelude.{◌≡◌, ◌≤◌, IsTrue, IsSome, IfOk, false, is_some};
+ghost use Rattle.std.specs.Prelude.{◌≡◌, IsTrue, IsSome, IfOk, false, is_some};
 ghost use Rattle.std.specs.List.{All, list_all};
 ghost use Rattle.std.specs.List.Sorted.{IsStrictlySortedBy};
 ghost use Rattle.std.specs.Map.{keys_of};
@@ -22,7 +22,7 @@ use hazard_types::{
 use office_types::{EventTexts, Plan, Texts};
 use std::alloc::Global;
 
-/// Whether the site of the flood values, if any, is a location's code.
+/// Whether the site of the H-VTEC values is a location's code; true if there are no such values.
 fn has_location(flood: &Option<Flood>) -> bool
     ensures { IsTrue result → HasLocation flood.now }
 {
@@ -32,7 +32,7 @@ fn has_location(flood: &Option<Flood>) -> bool
     }
 }
 
-/// Whether the line's end is a minute, or its action is not EXP.
+/// Whether an EXP line has a minute as its end; true for any other action.
 fn has_expiry(line: &SegLine) -> bool
     ensures { IsTrue result → line.now.action ≡ action.Exp → IsTrue (is_minute line.now.end) }
 {
@@ -42,9 +42,10 @@ fn has_expiry(line: &SegLine) -> bool
     }
 }
 
-/// Whether a product text can have the line: the hazard is known, a flood has a location, an EXP
-/// line has an end, and the event tracking number has at most four digits.
-fn is_sayable(line: &SegLine) -> bool
+/// Whether a product text can have the line: the desk issues the hazard, the site of H-VTEC values
+/// is a location's code, an EXP line has a minute as its end, and the event tracking number has at
+/// most four digits.
+fn is_writable_line(line: &SegLine) -> bool
     ensures { IsTrue result → CanBeWritten line.now }
 {
     let known = facts(line.event.hazard).is_some();
@@ -74,7 +75,7 @@ fn have_names(settings: &Settings, zones: &[Zone]) -> bool
     true
 }
 
-/// Whether the settings have a name for each zone, or the class is T, whose texts have no names of
+/// Whether the settings have a name for each zone; true in class T, whose texts have no names of
 /// zones.
 #[tactic(auto, using(crate::proofs::Fitting::all_some))]
 fn are_named(settings: &Settings, class: Class, zones: &[Zone]) -> bool
@@ -88,14 +89,14 @@ fn are_named(settings: &Settings, class: Class, zones: &[Zone]) -> bool
     }
 }
 
-/// Whether all bytes are printable.
+/// Whether each byte is a printable ASCII character, from the space to `~`.
 fn are_printable(text: &[u8]) -> bool
     ensures { result ≡ list_all is_printable text.now }
 {
     text.iter().all(|byte| is_printable(*byte))
 }
 
-/// Whether all bytes of the texts are printable.
+/// Whether each byte of the four texts is a printable ASCII character, from the space to `~`.
 fn print(texts: &Texts) -> bool
     ensures what { IsTrue result → IsTrue (list_all is_printable texts.now.what) }
     ensures area { IsTrue result → IsTrue (list_all is_printable texts.now.area) }
@@ -109,7 +110,7 @@ fn print(texts: &Texts) -> bool
     what && area && impacts && details
 }
 
-/// Whether a correction's letter, if any, is A-Z.
+/// Whether the letter of a correction is A-Z; true for `None`.
 fn is_letter(letter: &Option<u8>) -> bool
     ensures { IsTrue result → IsLetter letter.now }
 {
@@ -119,7 +120,11 @@ fn is_letter(letter: &Option<u8>) -> bool
     }
 }
 
-/// Whether a product text can be written of these values, at a minute `t` of at most 52,000,000.
+/// Whether a product text in this class can be written of these values. The desk must issue the
+/// hazard of the line, the settings must name each zone, unless the class is T, the texts must be
+/// printable ASCII, the letter of a correction A to Z, if there is one, and the product's minute
+/// `t` at most 52,000,000. Of the line, H-VTEC values need a location's code, EXP needs a minute as
+/// its end, and the event tracking number has at most four digits.
 pub fn fits(
     settings: &Settings,
     class: Class,
@@ -132,14 +137,16 @@ pub fn fits(
     requires { IsStrictlySortedBy by_place (keys_of settings.now.zones) }
     ensures { IsTrue result → Fits settings.now class letter.now zones.now line.now texts.now t }
 {
-    let said = is_sayable(line);
+    let said = is_writable_line(line);
     let named = are_named(settings, class, zones);
     let printable = print(texts);
     let capital = is_letter(letter);
     said && named && printable && capital && t.get() <= 52_000_000
 }
 
-/// Returns the plan of one segment with one line and its texts.
+/// Returns the plan of a product of one segment, which has these zones and this line, and of the
+/// texts on the event of the line. It opens no event, and its own `lines` are empty. `bbb` is the
+/// letter of a correction, `None` for no correction.
 ///
 /// # Errors
 ///

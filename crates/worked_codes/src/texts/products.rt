@@ -36,7 +36,7 @@ struct Asked {
     said: Said,
 }
 
-/// Returns the edition of the product text with this name, or `None`.
+/// Returns the edition of product texts that `One` or `Two` names, or `None` for another word.
 fn edition_of(word: &str) -> Option<Edition> {
     match word {
         "One" => Some(Edition::One),
@@ -45,9 +45,11 @@ fn edition_of(word: &str) -> Option<Edition> {
     }
 }
 
-/// Returns what the words `FORM EDITION CLASS CATEGORY LETTER H-VTEC LINE` ask for, or `None` if
-/// they are not such words. FORM is `text`, `length`, or how often the text is made before its
-/// length is printed; LETTER and H-VTEC may be `-`.
+/// Returns what the words `FORM EDITION CLASS CATEGORY LETTER H-VTEC ACTION EVENT BEGIN END ZONE
+/// STAMP` ask for, or `None` if they are not such words. FORM is `text`, or anything else for the
+/// text's length; a number is how often the text is made before. LETTER is the letter of a
+/// correction, or `-` for no correction, and an H-VTEC that is no H-VTEC string, as `-`, stands for
+/// none.
 fn read_asked(words: &str) -> Option<Asked> {
     let (form, rest) = parted(words);
     let (edition, rest) = parted(rest);
@@ -71,7 +73,8 @@ fn read_asked(words: &str) -> Option<Asked> {
     })
 }
 
-/// Returns N and WORDS for a text `N*WORDS`, or 1 and the whole text.
+/// Returns N and WORDS for a text `N*WORDS`, or 1 and the whole text if it has no `*`. If what
+/// stands before the `*` is no number, N is 0.
 fn times_of(written: &str) -> (usize, &str) {
     match written.split_once('*') {
         Some((count, words)) => (count.parse::<usize>().unwrap_or(0), words),
@@ -79,7 +82,8 @@ fn times_of(written: &str) -> (usize, &str) {
     }
 }
 
-/// Returns a forecaster's text: the words, N times.
+/// Returns the text that a script writes as `N*WORDS`, WORDS N times, or the whole of `written` if
+/// it has no `*`. If what stands before the `*` is no number, the text is empty.
 fn repeated(alloc: Global, written: &str) -> Result<Text, Oom> {
     let mut text = Text::new(alloc);
     let (count, words) = times_of(written);
@@ -89,8 +93,9 @@ fn repeated(alloc: Global, written: &str) -> Result<Text, Oom> {
     Ok(text)
 }
 
-/// Appends a refusal: `TooLong` with the number of bytes, or `refused`.
-fn put_refusal(out: &mut String, alloc: Global, refusal: &Refusal) -> Result<(), Oom> {
+/// Appends `TooLong` and the number of bytes for a refusal of a product text that is too long, or
+/// `refused` for any other refusal.
+fn write_refusal(out: &mut String, alloc: Global, refusal: &Refusal) -> Result<(), Oom> {
     match refusal {
         Refusal::TooLong { bytes } => {
             let said = format!(in alloc; "TooLong {bytes}")?;
@@ -101,9 +106,9 @@ fn put_refusal(out: &mut String, alloc: Global, refusal: &Refusal) -> Result<(),
     Ok(())
 }
 
-/// Makes the text of a plan `before` times and drops each, and then appends the text, or its length
-/// in bytes, or that it is too long.
-fn put_product(
+/// Makes the text of a plan `asked.before` times and drops each, and then appends the text or its
+/// length in bytes, as `asked.whole` says, or the refusal. `t` is the product's minute.
+fn write_product(
     out: &mut String,
     alloc: Global,
     settings: &Settings,
@@ -129,14 +134,16 @@ fn put_product(
                 out.push_str(said.as_str())?;
             }
         }
-        Err(Or::No(refusal)) => put_refusal(out, alloc, &refusal)?,
+        Err(Or::No(refusal)) => write_refusal(out, alloc, &refusal)?,
         Err(Or::OutOfMemory) => return Err(Oom),
     }
     Ok(())
 }
 
-/// Appends the product in these zones, or `unfit` if no product text can be written of it.
-fn put_fitting(
+/// Appends the product of `asked` with these zones and texts: its text, its length in bytes, or its
+/// refusal. It appends `unfit` if no product text can be written of the values. There is at least
+/// one zone, and the zones are sorted by state, kind and number, each once.
+fn write_fitting(
     out: &mut String,
     alloc: Global,
     settings: &Settings,
@@ -163,11 +170,13 @@ fn put_fitting(
         return Ok(());
     }
     let plan = plan_of(alloc, asked.category, asked.letter, zones, &line, texts)?;
-    put_product(out, alloc, settings, asked, &plan, t)
+    write_product(out, alloc, settings, asked, &plan, t)
 }
 
-/// Appends the product in the zones of a UGC string, or `unread` if the text is none.
-fn put_in_zones(
+/// Appends the product of `asked` with these texts in the zones of the UGC string that `zones`
+/// starts with: its text, its length in bytes, its refusal, or `unfit` if no product text can be
+/// written of the values. It appends `unread` if `zones` starts with none.
+fn write_in_zones(
     out: &mut String,
     alloc: Global,
     settings: &Settings,
@@ -178,7 +187,7 @@ fn put_in_zones(
     requires { HasForms settings.now }
 {
     match read_ugc(alloc, zones.as_bytes()) {
-        Ok(ugc) => put_fitting(out, alloc, settings, asked, ugc.zones, texts),
+        Ok(ugc) => write_fitting(out, alloc, settings, asked, ugc.zones, texts),
         Err(Or::No(_fault)) => {
             out.push_str("unread")?;
             Ok(())
@@ -187,7 +196,8 @@ fn put_in_zones(
     }
 }
 
-/// Returns the training settings of an office, or `None` if the text is not an office's code.
+/// Returns the training settings of an office, or `None` if the text is not an office's code, as
+/// `KLWX`.
 fn training_of(alloc: Global, office: &str) -> Result<Option<Settings>, Oom>
     ensures { IfOk result (λ found. IfSome found HasForms) }
 {
@@ -202,7 +212,7 @@ fn training_of(alloc: Global, office: &str) -> Result<Option<Settings>, Oom>
     Ok(Some(settings))
 }
 
-/// Returns the settings of a file's text, or `None` if it has a fault.
+/// Returns the settings that a settings' file with these bytes gives, or `None` if it has a fault.
 fn settings_of(alloc: Global, text: &[u8]) -> Result<Option<Settings>, Oom>
     ensures { IfOk result (λ found. IfSome found HasForms) }
 {
@@ -213,8 +223,10 @@ fn settings_of(alloc: Global, text: &[u8]) -> Result<Option<Settings>, Oom>
     }
 }
 
-/// Returns the settings that a script's text gives: in class T by an office's code, else as a
-/// file's text.
+/// Returns the settings that a script's text gives, or `None` if it gives none. For class T
+/// `written` is an office's code, whose training settings they are; for the other classes it is a
+/// settings' file. In this a backslash before `n` or `r` writes LF or CR, and before any other byte
+/// that byte.
 fn settings_for(alloc: Global, class: Class, written: &str) -> Result<Option<Settings>, Oom>
     ensures { IfOk result (λ found. IfSome found HasForms) }
 {
@@ -227,7 +239,10 @@ fn settings_for(alloc: Global, class: Class, written: &str) -> Result<Option<Set
     }
 }
 
-/// Appends the product of a line `ASKED|UGC|WHAT|AREA|IMPACTS|DETAILS|SETTINGS`, or `unread`.
+/// Appends the product of a line `ASKED|UGC|WHAT|AREA|IMPACTS|DETAILS|SETTINGS`: its text, its
+/// length in bytes or its refusal, as the words ASKED say. It appends `unfit` if no product text
+/// can be written of the values, and `unread` if ASKED, UGC or SETTINGS can't be read. A text may
+/// be written `N*WORDS`, for WORDS N times.
 ///
 /// # Errors
 ///
@@ -248,7 +263,7 @@ pub fn product_answer(out: &mut String, alloc: Global, rest: &str) -> Result<(),
         return Ok(());
     };
     match settings_for(alloc, asked.class, written)? {
-        Some(settings) => put_in_zones(out, alloc, &settings, &asked, zones, texts),
+        Some(settings) => write_in_zones(out, alloc, &settings, &asked, zones, texts),
         None => {
             out.push_str("unread")?;
             Ok(())

@@ -8,7 +8,10 @@ use office_types::Desk;
 use std::alloc::{AllocError, Global};
 use worked_lines::text_of;
 
-/// Returns the bytes of a text, with a comment at the end that brings them to `count` bytes.
+/// Returns the bytes that `written` stands for, then a comment of `#` and as many `x` as bring them
+/// all to `count` bytes; if they are as many or more with the `#`, the comment is `#` alone. In
+/// `written` a backslash before `n` or `r` writes LF or CR, and before any other byte that byte.
+/// `count` is a decimal number, 0 if it is none.
 ///
 /// # Errors
 ///
@@ -23,7 +26,10 @@ pub fn filled(alloc: Global, count: &str, written: &str) -> Result<Text, Oom> {
     Ok(text)
 }
 
-/// Returns the bytes of a text, with a table of `count` named zones at the end.
+/// Returns the bytes that `written` stands for, then a table `[zones]` of `count` zones, each with
+/// the name `Plain`: AAZ001 to AAZ999, ABZ001 and so on. In `written` a backslash before `n` or `r`
+/// writes LF or CR, and before any other byte that byte. `count` is a decimal number, 0 if it is
+/// none or above 65,535.
 ///
 /// # Errors
 ///
@@ -42,7 +48,7 @@ pub fn with_zones(alloc: Global, count: &str, written: &str) -> Result<Text, Oom
     Ok(text)
 }
 
-/// Appends a fault, with its key if it has one.
+/// Appends the name of a fault, followed by a blank and its key if it has one, as `Missing office`.
 fn push_fault(out: &mut String, fault: &SettingsFault) -> Result<(), AllocError> {
     match fault {
         SettingsFault::NotToml => out.push_str("NotToml"),
@@ -62,7 +68,7 @@ fn push_fault(out: &mut String, fault: &SettingsFault) -> Result<(), AllocError>
     }
 }
 
-/// Appends `accepted`, or the first fault of a text of settings.
+/// Appends `accepted`, or the first fault of the settings' file with these bytes.
 ///
 /// # Errors
 ///
@@ -76,7 +82,8 @@ pub fn settings_answer(out: &mut String, alloc: Global, text: &[u8]) -> Result<(
     Ok(())
 }
 
-/// Appends the name that settings have for a zone, or `none`.
+/// Appends the name of the zone `code`, as `MDZ003`, in the settings whose file is `text`, or
+/// `none` if they don't name it. It appends `unread` if the code or the settings can't be read.
 ///
 /// # Errors
 ///
@@ -92,7 +99,8 @@ pub fn zone_answer(out: &mut String, alloc: Global, code: &str, text: &[u8]) -> 
     Ok(())
 }
 
-/// Appends whether settings have a desk, as `yes` or `no`.
+/// Appends `yes` if the settings whose file is `text` have the desk `name`, else `no`. It appends
+/// `unread` if the name is not a desk's or the settings can't be read.
 ///
 /// # Errors
 ///
@@ -111,7 +119,9 @@ pub fn desk_answer(out: &mut String, alloc: Global, name: &str, text: &[u8]) -> 
     Ok(())
 }
 
-/// Appends the first six characters of the headings of a category's products.
+/// Appends the `TTAAii` of the headings of a category's products, as `WWUS41`, in the settings
+/// whose file is `text`. It appends `unread` if `code` is no category's, as `WSW`, or the settings
+/// can't be read.
 ///
 /// # Errors
 ///
@@ -138,8 +148,8 @@ fn push_site(out: &mut String, site: [u8; 3]) -> Result<(), AllocError> {
     out.push_str(text_of(&site))
 }
 
-/// Appends the values of training settings: office, site, desks, the heading of WSW, the number of
-/// zones with a name, and the office line.
+/// Appends the values of training settings, with blanks between them: office, site, desks, the
+/// heading of WSW, the number of zones with a name, and the office line.
 fn push_training(out: &mut String, alloc: Global, settings: &Settings) -> Result<(), Oom> {
     push_office(out, settings.office)?;
     push_site(out, settings.site)?;
@@ -156,8 +166,9 @@ fn push_training(out: &mut String, alloc: Global, settings: &Settings) -> Result
     Ok(())
 }
 
-/// Appends the values of an office's training settings, or `unread` if the text is not an office's
-/// code.
+/// Appends the values of the training settings of `office`, with blanks between them: office, site,
+/// desks, the heading of WSW, the number of zones with a name, and the office line. It appends
+/// `unread` if `office` is not an office's code, as `KLWX`.
 ///
 /// # Errors
 ///

@@ -12,48 +12,50 @@ use ugc_codes::read_ugc;
 const BAD_ZONES: &[u8] =
     b"WWUS41 KLWX 031530\nWSWLWX\n\n1030 AM EST Wed Jan 3 2018\n\nMDZ003-04-031500-\n$$\n";
 
-/// Appends what an error prints, whatever its type.
-fn put_error<E: Error>(out: &mut String, error: E) -> Result<(), AllocError> {
+/// Appends a line `error` with the words of an error of any type.
+fn write_error<E: Error>(out: &mut String, error: E) -> Result<(), AllocError> {
     writeln!(out, "error {error}")
 }
 
-/// Appends what the error of a call prints, or `no error`.
-fn put_error_of<T: Drop, E: Error>(
+/// Appends a line `error` with the words of the error of a call, or `no error` if there is none.
+fn write_error_of<T: Drop, E: Error>(
     out: &mut String,
     outcome: Result<T, E>,
 ) -> Result<(), AllocError> {
     match outcome {
         Ok(_value) => out.push_str("no error\n"),
-        Err(error) => put_error(out, error),
+        Err(error) => write_error(out, error),
     }
 }
 
-/// Appends refusals that have a number, a desk, a zone, and an event in a zone.
-fn put_refusals(out: &mut String) -> Result<(), AllocError> {
-    put_error(out, Refusal::Reused { last: 5 })?;
+/// Appends the words of four refusals, a line each: with a number, with a desk, with a zone, and
+/// with an event in a zone.
+fn write_refusals(out: &mut String) -> Result<(), AllocError> {
+    write_error(out, Refusal::Reused { last: 5 })?;
     if let Some(owner) = Desk::new(b"A") {
-        put_error(out, Refusal::NotOwner { owner })?;
+        write_error(out, Refusal::NotOwner { owner })?;
     }
     if let Some(zone) = parse_zone(b"MDZ099") {
-        put_error(out, Refusal::UnknownZone { zone })?;
+        write_error(out, Refusal::UnknownZone { zone })?;
     }
     match (parse_event(b"WS.W.0001.2018"), parse_zone(b"MDZ006")) {
-        (Some(event), Some(zone)) => put_error(out, Refusal::NotLive { event, zone }),
+        (Some(event), Some(zone)) => write_error(out, Refusal::NotLive { event, zone }),
         _ => Ok(()),
     }
 }
 
-/// Appends what errors of each type print.
+/// Appends the words of one error of each type, a line each: of a UGC string, of a local time, of a
+/// product's text, of settings, then four refusals, and out of memory.
 ///
 /// # Errors
 ///
 /// Out of memory.
-pub fn put_errors(alloc: Global, out: &mut String) -> Result<(), Oom> {
-    put_error_of(out, read_ugc(alloc, b"MDZ005>003-031500-"))?;
-    put_error_of(out, read_local_line(b"1030 AM XYZ Wed Jan 3 2018"))?;
-    put_error_of(out, decode(alloc, BAD_ZONES))?;
-    put_error_of(out, read_settings(alloc, b"office = \"KLWX\"\n"))?;
-    put_refusals(out)?;
-    put_error(out, Oom)?;
+pub fn write_errors(alloc: Global, out: &mut String) -> Result<(), Oom> {
+    write_error_of(out, read_ugc(alloc, b"MDZ005>003-031500-"))?;
+    write_error_of(out, read_local_line(b"1030 AM XYZ Wed Jan 3 2018"))?;
+    write_error_of(out, decode(alloc, BAD_ZONES))?;
+    write_error_of(out, read_settings(alloc, b"office = \"KLWX\"\n"))?;
+    write_refusals(out)?;
+    write_error(out, Oom)?;
     Ok(())
 }

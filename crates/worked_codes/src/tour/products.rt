@@ -1,12 +1,13 @@
 //! Products, read one at a time and then together.
-use hazard_types::{Class, Minute, Oom, Or, Text, read_stamp};
+use hazard_types::{Class, Minute, Oom, Or, Text, parse_stamp};
 use product_decoder::{Reader, Track, decode};
 use product_frame::FrameFault;
 use std::alloc::{AllocError, Global};
 use worked_lines::text_of;
 
-/// Appends a product's identifier, issue time and number of P-VTEC lines, or its first fault.
-fn put_product(alloc: Global, out: &mut String, text: &[u8]) -> Result<(), Oom> {
+/// Appends a line with the identifier, the issue time and the number of P-VTEC lines of the first
+/// product of a text, each counted once for each zone of its segment, or with its first fault.
+fn write_product(alloc: Global, out: &mut String, text: &[u8]) -> Result<(), Oom> {
     match decode(alloc, text) {
         Ok(product) => {
             let identifier = text_of(product.identifier.as_slice());
@@ -31,8 +32,9 @@ fn reader_of(alloc: Global, first: &[u8], second: &[u8]) -> Result<Reader, Or<Fr
     Ok(reader)
 }
 
-/// Appends a life: its event and zone, and the action and time of each step.
-fn put_life(out: &mut String, life: &Track) -> Result<(), AllocError> {
+/// Appends a line with the life of an event in a zone: the event, the zone, and the action and the
+/// time of each step.
+fn write_life(out: &mut String, life: &Track) -> Result<(), AllocError> {
     write!(out, "life {} {}", life.event, life.zone)?;
     for step in life.steps.as_slice() {
         write!(out, " {:?} {}", step.0, step.1)?;
@@ -40,16 +42,16 @@ fn put_life(out: &mut String, life: &Track) -> Result<(), AllocError> {
     out.push('\n')
 }
 
-/// Appends what a reader has found: the life of each event in each zone, the lines in breach, and
-/// the rows that are live at a minute.
-fn put_findings(
+/// Appends what a reader has found, a line each: the life of each event in each zone, the lines in
+/// breach of a rule, and the rows that are live at `minute`.
+fn write_findings(
     alloc: Global,
     out: &mut String,
     reader: &Reader,
     minute: Minute,
 ) -> Result<(), Oom> {
     for life in reader.lives(alloc)?.as_slice() {
-        put_life(out, life)?;
+        write_life(out, life)?;
     }
     for found in reader.breaches(alloc)?.as_slice() {
         let product = found.product;
@@ -66,32 +68,39 @@ fn put_findings(
     Ok(())
 }
 
-/// Appends what the calls return for two products, one at a time and then together.
-fn put_both(
+/// Appends what is read in two products' texts, each alone, and then what a reader finds in both,
+/// with the rows that are live at 2018-01-03 17:00 UTC. Errs with the first fault of the first text
+/// that has one.
+fn write_both(
     alloc: Global,
     out: &mut String,
     first: &[u8],
     second: &[u8],
 ) -> Result<(), Or<FrameFault>> {
-    put_product(alloc, out, first)?;
-    put_product(alloc, out, second)?;
+    write_product(alloc, out, first)?;
+    write_product(alloc, out, second)?;
     let reader = reader_of(alloc, first, second)?;
-    if let Some(minute) = read_stamp(b"180103T1700Z") {
-        put_findings(alloc, out, &reader, minute)?;
+    if let Some(minute) = parse_stamp(b"180103T1700Z") {
+        write_findings(alloc, out, &reader, minute)?;
     }
     Ok(())
 }
 
-/// Appends what the calls return for a text that is no product, and for the first two texts.
+/// Appends what is read in a text that is no product, and then in the first two of `texts`, each
+/// alone and both together. With fewer than two texts it appends only the former.
 ///
 /// # Errors
 ///
 /// - `No` with the first fault of one of the two texts.
 /// - `OutOfMemory`.
-pub fn put_products(alloc: Global, out: &mut String, texts: &[Text]) -> Result<(), Or<FrameFault>> {
-    put_product(alloc, out, b"no product\n")?;
+pub fn write_products(
+    alloc: Global,
+    out: &mut String,
+    texts: &[Text],
+) -> Result<(), Or<FrameFault>> {
+    write_product(alloc, out, b"no product\n")?;
     match texts {
-        [first, second, ..] => put_both(alloc, out, first.as_slice(), second.as_slice()),
+        [first, second, ..] => write_both(alloc, out, first.as_slice(), second.as_slice()),
         _ => Ok(()),
     }
 }

@@ -1,21 +1,22 @@
 //! The lines of the tour: a stream of two products, and then `tour`, which prints what each call
 //! returns.
-use crate::tour::codes::put_codes;
-use crate::tour::errors::put_errors;
-use crate::tour::products::put_products;
-use crate::tour::streams::put_stream;
+use crate::tour::codes::write_codes;
+use crate::tour::errors::write_errors;
+use crate::tour::products::write_products;
+use crate::tour::streams::write_stream;
 use hazard_types::{List, Oom, Or, Text};
 use product_frame::FrameFault;
 use std::alloc::Global;
 use worked_lines::Work;
 
-/// Returns what is printed of the calls, over a stream of two products.
+/// Returns what the tour prints, the answers of the libraries to codes, to the first two products
+/// of `stream`, and to texts with errors. Errs with the first fault of one of these two products.
 fn answers_of(alloc: Global, stream: &[u8]) -> Result<String, Or<FrameFault>> {
     let mut out = String::new(alloc);
-    put_codes(alloc, &mut out)?;
-    let texts = put_stream(alloc, &mut out, stream)?;
-    put_products(alloc, &mut out, texts.as_slice())?;
-    put_errors(alloc, &mut out)?;
+    write_codes(alloc, &mut out)?;
+    let texts = write_stream(alloc, &mut out, stream)?;
+    write_products(alloc, &mut out, texts.as_slice())?;
+    write_errors(alloc, &mut out)?;
     Ok(out)
 }
 
@@ -26,6 +27,7 @@ pub struct Tour {
 }
 
 impl Tour {
+    /// Returns a tour whose stream is empty.
     pub fn new(alloc: Global) -> Self {
         Tour {
             stream: List::new(alloc),
@@ -34,7 +36,8 @@ impl Tour {
 }
 
 impl Work for Tour {
-    /// Appends a line to the stream, or returns what is printed of the tour.
+    /// Returns what the tour prints for the line `tour`, or `no tour` if a product has a fault. Any
+    /// other line is appended to the stream with an LF, and nothing is printed.
     fn work(&mut self, alloc: Global, line: &str) -> Result<String, Oom> {
         if line != "tour" {
             self.stream.extend(line.as_bytes())?;

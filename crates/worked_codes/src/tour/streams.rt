@@ -3,8 +3,8 @@ use hazard_types::{List, Oom, Text};
 use product_decoder::Feed;
 use std::alloc::Global;
 
-/// Appends the length in bytes of the product that the feed returned, or `none`, and keeps its
-/// text.
+/// Appends a line `feed` with the length in bytes of the text that the feed returned, or `none`,
+/// and appends the text to `texts`.
 fn keep(out: &mut String, texts: &mut List<Text>, text: Option<Text>) -> Result<(), Oom> {
     match text {
         Some(text) => {
@@ -16,13 +16,15 @@ fn keep(out: &mut String, texts: &mut List<Text>, text: Option<Text>) -> Result<
     }
 }
 
-/// Returns the texts of the products of a stream, which comes in two halves, and appends what each
-/// call of the feed returned.
+/// Hands a stream to a feed in two halves, and asks the feed for a product once after the first
+/// half, twice after the second, and twice after the end. Returns the texts of the products that
+/// the feed returned, and appends a line for each call: `feed` with the text's length in bytes, or
+/// `feed none`.
 ///
 /// # Errors
 ///
 /// Out of memory.
-pub fn put_stream(alloc: Global, out: &mut String, stream: &[u8]) -> Result<List<Text>, Oom> {
+pub fn write_stream(alloc: Global, out: &mut String, stream: &[u8]) -> Result<List<Text>, Oom> {
     let (head, tail) = stream.split_at(stream.len() / 2);
     let mut texts = List::new(alloc);
     let mut feed = Feed::new(alloc);

@@ -3,8 +3,9 @@ use crate::desk::sweeps::Tally;
 use hazard_types::{Oom, Text};
 use std::alloc::Global;
 
-/// Returns what a command wrote, and a line with its exit status, the number of bytes of the file
-/// after it, and whether the file is unchanged.
+/// Returns what a command wrote, as text, and then the line `status STATUS, BYTES bytes` with its
+/// exit status and the number of bytes of the file after it. The line ends with `, unchanged` if
+/// the file is unchanged. `old` and `new` are the bytes of the file before and after the command.
 ///
 /// # Errors
 ///
@@ -24,8 +25,9 @@ pub fn run_answer(
     Ok(answer)
 }
 
-/// Returns a line for a run over the first `count` bytes: the last line of what it wrote, the
-/// number of bytes that it wrote, and its exit status.
+/// Returns the line `from COUNT: LAST, BYTES bytes, status STATUS` for a run over the first `count`
+/// bytes of a file or of settings. LAST is the last line of `written`, which is what the run wrote,
+/// or nothing if that is empty. BYTES is the number of bytes of all that was written.
 ///
 /// # Errors
 ///
@@ -37,7 +39,8 @@ pub fn cut_answer(alloc: Global, count: usize, written: &Text, status: u8) -> Re
     Ok(format!(in alloc; "from {count}: {last}, {bytes} bytes, status {status}\n")?)
 }
 
-/// Returns a line with the counts of a sweep.
+/// Returns the line `sweep: RUNS runs, DIFFER differ` with the counts of a sweep: its runs, and
+/// those that ended otherwise than they must.
 ///
 /// # Errors
 ///

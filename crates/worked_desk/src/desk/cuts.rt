@@ -5,7 +5,8 @@ use crate::desk::steps::Cutting;
 use hazard_types::{List, Oom, Text};
 use std::alloc::Global;
 
-/// Runs `export` of a file with these bytes, or `init` with them as settings.
+/// Runs `export` over a file of these bytes, or `init` with them as settings and no file, as
+/// `cutting` says, and returns the exit status, what was written, and the disk.
 fn run_on(alloc: Global, cutting: Cutting, bytes: &[u8]) -> Result<Run, Oom> {
     let none = Given {
         input: Text::new(alloc),
@@ -23,7 +24,10 @@ fn run_on(alloc: Global, cutting: Cutting, bytes: &[u8]) -> Result<Run, Oom> {
     }
 }
 
-/// Returns a line for each number of first bytes whose run differs from the one before it.
+/// Returns a line for each number of first bytes of `bytes`, from 0 to all, with which a run writes
+/// or ends otherwise than with one byte less; the line of 0 bytes is always there. A run is
+/// `export` over a file of these bytes, or `init` with them as settings and no file, as `cutting`
+/// says.
 ///
 /// # Errors
 ///

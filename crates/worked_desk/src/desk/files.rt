@@ -13,7 +13,7 @@ const CLOSE: u8 = b'.';
 /// The number of bytes before the body of a record.
 const HEAD: usize = 5;
 
-/// Appends a record with this body.
+/// Appends a record with this body: `G`, the length of the body as four bytes, and the body.
 fn add_record(journal: &mut Text, body: &[u8]) -> Result<(), Oom> {
     let length = u32::try_from(body.len()).unwrap_or(u32::MAX);
     journal.push(GATE)?;
@@ -21,7 +21,8 @@ fn add_record(journal: &mut Text, body: &[u8]) -> Result<(), Oom> {
     journal.extend(body)
 }
 
-/// Returns the journal of an office of edition One with one entry.
+/// Returns the journal of an office of edition One: a record with `settings` as its body, one with
+/// `entry` as its body, and `.`.
 ///
 /// # Errors
 ///
@@ -34,7 +35,7 @@ pub fn older_journal(alloc: Global, settings: &[u8], entry: &[u8]) -> Result<Tex
     Ok(journal)
 }
 
-/// Returns a journal with one more record, at the end.
+/// Returns a copy of a journal with one more record, whose body is `body`, after its others.
 ///
 /// # Errors
 ///
@@ -47,7 +48,7 @@ pub fn with_record(alloc: Global, journal: &[u8], body: &[u8]) -> Result<Text, O
     Ok(longer)
 }
 
-/// Returns the records of a journal, without its last byte.
+/// Returns the records of a journal, without its last byte `.`; empty for an empty file.
 pub fn records_of(journal: &[u8]) -> &[u8] {
     match journal.split_last() {
         Some((_close, records)) => records,
@@ -55,7 +56,8 @@ pub fn records_of(journal: &[u8]) -> &[u8] {
     }
 }
 
-/// Returns a file with another byte at a place, which counts `back` bytes from the end, from 1.
+/// Returns a file with its byte number `back` from the end, counted from 1, set to `byte`. If there
+/// is no such byte the file is as before.
 ///
 /// # Errors
 ///
@@ -72,8 +74,8 @@ pub fn with_byte(alloc: Global, file: &[u8], back: u64, byte: u8) -> Result<Text
     Ok(changed)
 }
 
-/// Returns the length of the body of the record at the start of the bytes, or `None` if there is no
-/// record.
+/// Returns the length of the body that the record at the start of the bytes states, or `None` if
+/// they do not start with `G` and four bytes.
 fn body_length(bytes: &[u8]) -> Option<u32> {
     if *bytes.first()? != GATE {
         return None;
@@ -85,13 +87,15 @@ fn body_length(bytes: &[u8]) -> Option<u32> {
     Some(u32::from_be_bytes([first, second, third, fourth]))
 }
 
-/// Returns the bytes after the record at their start, or `None` if it is not whole.
+/// Returns the bytes after the record with which the bytes start, or `None` if they do not start
+/// with a whole record.
 fn behind_record(bytes: &[u8]) -> Option<&[u8]> {
     let length = usize::try_from(body_length(bytes)?).ok()?;
     bytes.get(HEAD.checked_add(length)?..)
 }
 
-/// Returns the bytes of a journal from its last record on.
+/// Returns the bytes of a journal from the start of its last record on, whole or not. All bytes are
+/// returned if no record comes after another.
 fn last_record(journal: &[u8]) -> &[u8] {
     let mut bytes = journal;
     for _turn in 0..journal.len() {
@@ -103,8 +107,9 @@ fn last_record(journal: &[u8]) -> &[u8] {
     bytes
 }
 
-/// Returns a line with the last record of a journal: `G`, its length as eight hex digits, and the
-/// rest of the journal as text.
+/// Returns the line `G LENGTH REST` for the last record of a journal: the length of its body as
+/// eight hex digits, and the rest of the journal as text. It is the line `no record` if there is
+/// none.
 ///
 /// # Errors
 ///

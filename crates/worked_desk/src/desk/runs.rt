@@ -48,7 +48,7 @@ pub struct Run {
     pub disk: MemDisk,
 }
 
-/// Returns the list of this call, or an empty one.
+/// Returns a list that has only the number `call`, or an empty one for `None`.
 fn failing_calls(alloc: Global, call: Option<u64>) -> Result<List<u64>, Oom> {
     let mut failing: List<u64> = List::new(alloc);
     if let Some(call) = call {
@@ -57,13 +57,16 @@ fn failing_calls(alloc: Global, call: Option<u64>) -> Result<List<u64>, Oom> {
     Ok(failing)
 }
 
-/// Returns a disk with a file and these faults.
+/// Returns a disk in memory with the bytes `file` as its file. `faults` give the call that fails
+/// and the last call that may succeed, each `None` if there is none, and the number that chooses
+/// what a crash leaves, for which `None` stands for 0. The fault of the output is not read.
 fn disk_of(alloc: Global, file: &[u8], faults: &Faults) -> Result<MemDisk, Oom> {
     let failing = failing_calls(alloc, faults.failing)?;
     MemDisk::new(alloc, file, &failing, faults.stop, faults.pick.unwrap_or(0))
 }
 
-/// Returns a clock with these readings, or with the reading 0 if there are none.
+/// Returns a clock with these readings, in minutes since 2000-01-01 00:00 UTC, or with the reading
+/// 0 if there are none.
 fn clock_of(alloc: Global, readings: &List<i64>) -> Result<SetClock, Oom> {
     if readings.is_empty() {
         let zero = List::from_slice(alloc, &[0])?;
@@ -72,7 +75,10 @@ fn clock_of(alloc: Global, readings: &List<i64>) -> Result<SetClock, Oom> {
     SetClock::new(readings)
 }
 
-/// Runs the command of these words over a disk with a file and these faults.
+/// Runs a command of the desk, the words of `command`, over a disk with the bytes `file` as its
+/// file, and returns its exit status, what it wrote, and its disk. `given` has its input, of which
+/// at most 100,000 bytes are allowed, and the readings of its clock; without any the clock reads
+/// 2000-01-01 00:00 UTC. `faults` are those of the disk and the output.
 ///
 /// # Errors
 ///
@@ -107,7 +113,8 @@ pub fn run_command(
     })
 }
 
-/// Returns the texts that `export` writes of a file.
+/// Returns what the command `export` writes over a disk with the bytes `file` as its file: the
+/// texts of the office's products, or a fault. `given` has the readings of the clock.
 ///
 /// # Errors
 ///

@@ -20,7 +20,9 @@ pub struct Script {
     faults: Faults,
 }
 
-/// Returns the readings of a line, or `None` if a word is none.
+/// Returns the readings of the clock, in minutes since 2000-01-01 00:00 UTC, that words with one
+/// blank between them give, in order. Each word is a stamp or a number of minutes; `None` if one is
+/// neither.
 fn readings_of(alloc: Global, words: &str) -> Result<Option<List<i64>>, Oom> {
     let mut readings = List::new(alloc);
     for word in words.split(' ') {
@@ -32,7 +34,7 @@ fn readings_of(alloc: Global, words: &str) -> Result<Option<List<i64>>, Oom> {
     Ok(Some(readings))
 }
 
-/// Returns a line end.
+/// Returns the bytes of a line end: LF, CR and LF, or none.
 fn ending_of(ending: Ending) -> &'static str {
     match ending {
         Ending::Feed => "\n",
@@ -41,7 +43,7 @@ fn ending_of(ending: Ending) -> &'static str {
     }
 }
 
-/// Appends a line of `length` letters.
+/// Appends a line of `length` letters `x`, and LF.
 fn add_long(text: &mut Text, length: u64) -> Result<(), Oom> {
     for _place in 0..length {
         text.push(b'x')?;
@@ -49,7 +51,8 @@ fn add_long(text: &mut Text, length: u64) -> Result<(), Oom> {
     text.push(b'\n')
 }
 
-/// Returns the file after a run: what a crash leaves, or what the disk has.
+/// Returns the file after a run: what a crash leaves of it if `crashes`, else the file as the disk
+/// has it.
 fn file_behind(disk: MemDisk, crashes: bool) -> Result<Text, Oom> {
     if crashes {
         return disk.crashed();
@@ -58,6 +61,8 @@ fn file_behind(disk: MemDisk, crashes: bool) -> Result<Text, Oom> {
 }
 
 impl Script {
+    /// Returns a script with empty settings, an empty file and input, no readings of the clock, and
+    /// no faults.
     pub fn new(alloc: Global) -> Self {
         Script {
             settings: List::new(alloc),
@@ -70,17 +75,18 @@ impl Script {
         }
     }
 
-    /// Appends a line to the settings.
+    /// Appends a line, with LF, to the settings.
     fn add_setting(&mut self, line: &str) -> Result<(), Oom> {
         add_line(&mut self.settings, line, "\n")
     }
 
-    /// Appends a line to the input.
+    /// Appends a line, with this line end, to the input.
     fn ask(&mut self, line: &str, ending: Ending) -> Result<(), Oom> {
         add_line(&mut self.given.input, line, ending_of(ending))
     }
 
-    /// Sets the readings of the clock, and returns whether the words are readings.
+    /// Sets the readings of the clock to those that the words give, and returns `true`. If a word
+    /// is no reading, nothing changes and it returns `false`.
     fn set_readings(&mut self, alloc: Global, words: &str) -> Result<bool, Oom> {
         match readings_of(alloc, words)? {
             Some(readings) => {
@@ -91,7 +97,8 @@ impl Script {
         }
     }
 
-    /// Runs a command over the input; `init` over the settings.
+    /// Runs a command over the file, with the faults that are set, and returns its exit status,
+    /// what it wrote, and its disk. Its input is that of the script, or for `init` the settings.
     fn run_over(&self, alloc: Global, command: &str) -> Result<Run, Oom> {
         let file = self.file.as_slice();
         if command == "init" {
@@ -104,8 +111,10 @@ impl Script {
         run_command(alloc, command, &self.given, file, &self.faults)
     }
 
-    /// Runs a command, keeps the file that it leaves, and returns what is printed. The faults are
-    /// then removed; `init` and `script` empty the input too.
+    /// Runs a command, keeps the file that it leaves, and returns what it wrote and a line with its
+    /// exit status, the file's size, and whether the file is unchanged. If the faults set the last
+    /// call that may succeed, or what a crash leaves, the file is what a crash leaves after the
+    /// run. The faults are then removed; `init` and `script` empty the input too.
     fn run_step(&mut self, alloc: Global, command: &str) -> Result<String, Oom> {
         let Run { status, text, disk } = self.run_over(alloc, command)?;
         let crashes = self.faults.stop.is_some() || self.faults.pick.is_some();
@@ -119,7 +128,8 @@ impl Script {
         Ok(answer)
     }
 
-    /// Runs the command that writes the board at a minute.
+    /// Runs the command `board --at STAMP` with the stamp of a minute, and returns what it wrote
+    /// and a line with its exit status and the file's size.
     fn board_step(&mut self, alloc: Global, minute: Minute) -> Result<String, Oom> {
         let stamp = stamp(minute);
         let at = text_of(&stamp);
@@ -127,13 +137,19 @@ impl Script {
         self.run_step(alloc, command.as_str())
     }
 
-    /// Returns the counts of a sweep over the input and the file.
+    /// Returns the line `sweep: RUNS runs, DIFFER differ` of a sweep over the input and the file:
+    /// runs of what `tried` names, in each of which one of the first `calls` calls of the disk
+    /// fails or is the last that succeeds. DIFFER counts the runs that ended by an error other than
+    /// a fault of the disk, or by which an answer or a product was lost or changed. The file stays
+    /// as it is.
     fn sweep_step(&self, alloc: Global, tried: Tried, calls: u8) -> Result<String, Oom> {
         let tally = sweep(alloc, tried, &self.given, self.file.as_slice(), calls)?;
         sweep_answer(alloc, &tally)
     }
 
-    /// Returns the runs over each beginning of the file or of the settings.
+    /// Returns a line for each number of first bytes of the file, or of the settings, with which a
+    /// run writes or ends otherwise than with one byte less. `cutting` says which of the two is
+    /// cut.
     fn cuts_step(&self, alloc: Global, cutting: Cutting) -> Result<String, Oom> {
         let bytes = match cutting {
             Cutting::File => self.file.as_slice(),
@@ -142,20 +158,22 @@ impl Script {
         cuts(alloc, cutting, bytes)
     }
 
-    /// Makes the file the journal of an office of edition One with this entry.
+    /// Sets the file to the journal of an office of edition One, with the settings as its first
+    /// record and the bytes of `entry` as its second.
     fn set_older(&mut self, alloc: Global, entry: &str) -> Result<(), Oom> {
         self.file = older_journal(alloc, self.settings.as_slice(), entry.as_bytes())?;
         Ok(())
     }
 
-    /// Appends a comment of `length` bytes, at least one, to the settings.
+    /// Appends a comment of `length` bytes, at least one, and LF to the settings.
     fn add_comment(&mut self, length: u64) -> Result<(), Oom> {
         self.settings.push(b'#')?;
         add_long(&mut self.settings, length.saturating_sub(1))
     }
 
-    /// Does a step that changes the file by hand, and returns whether the step is one.
-    fn spoil(&mut self, alloc: Global, step: &Step<'_>) -> Result<bool, Oom> {
+    /// Does a step that sets or changes the bytes of the file without a command, and returns
+    /// `true`. For any other step it changes nothing and returns `false`.
+    fn edit_file_by_hand(&mut self, alloc: Global, step: &Step<'_>) -> Result<bool, Oom> {
         match step {
             Step::File(text) => self.file = List::from_slice(alloc, text.as_bytes())?,
             Step::Older(entry) => self.set_older(alloc, entry)?,
@@ -170,7 +188,9 @@ impl Script {
         Ok(true)
     }
 
-    /// Does a step that sets a fault of the next run, and returns whether the step is one.
+    /// Does a step that sets a fault of the next run, and returns `true`: the call of the disk that
+    /// fails, the last one that may succeed, what a crash leaves of its writes, or the write of the
+    /// output that fails. For any other step it changes nothing and returns `false`.
     fn set_fault(&mut self, step: &Step<'_>) -> bool {
         match step {
             Step::Failing(call) => self.faults.failing = Some(*call),
@@ -182,7 +202,9 @@ impl Script {
         true
     }
 
-    /// Does a step that prints nothing, and returns whether the step is one.
+    /// Does a step that changes the settings, the input or the readings of the clock, or is a
+    /// remark, and returns `true`. It changes nothing and returns `false` for any other step, and
+    /// if a word of `at` is no reading.
     fn prepare(&mut self, alloc: Global, step: &Step<'_>) -> Result<bool, Oom> {
         match step {
             Step::Remark => {}
@@ -199,10 +221,14 @@ impl Script {
 }
 
 impl Work for Script {
-    /// Returns what is printed for a line.
+    /// Does the step of a line, and returns what is printed for it: `unread: LINE` if it is no
+    /// step.
     fn work(&mut self, alloc: Global, line: &str) -> Result<String, Oom> {
         let step = step_of(line);
-        if self.prepare(alloc, &step)? || self.spoil(alloc, &step)? || self.set_fault(&step) {
+        if self.prepare(alloc, &step)?
+            || self.edit_file_by_hand(alloc, &step)?
+            || self.set_fault(&step)
+        {
             return Ok(String::new(alloc));
         }
         match &step {

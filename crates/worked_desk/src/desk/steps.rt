@@ -1,5 +1,5 @@
 //! The steps of a script of an office, one a line.
-use hazard_types::{Minute, read_stamp};
+use hazard_types::{Minute, parse_stamp};
 use worked_lines::is_remark;
 
 /// The end of a line of the input.
@@ -80,25 +80,29 @@ pub enum Step<'a> {
     Unread,
 }
 
-/// Returns the word as a decimal number, or `None`.
+/// Returns the number that a decimal word is, or `None` if the word is no number below 2^64.
 fn number_of(word: &str) -> Option<u64> {
     word.parse::<u64>().ok()
 }
 
-/// Returns the number of calls of a sweep, at most 255, or `None`.
+/// Returns the number of calls of a sweep, at most 255, or `None` if the word is no such number.
 fn calls_of(word: &str) -> Option<u8> {
     word.parse::<u8>().ok()
 }
 
-/// Returns the reading of a stamp or of a number of minutes since 2000-01-01 00:00 UTC, or `None`.
+/// Returns the reading of the clock, in minutes since 2000-01-01 00:00 UTC, that a word gives: a
+/// stamp, or a number of minutes, which may be negative. `None` if the word is neither.
 pub fn reading_of(word: &str) -> Option<i64> {
-    match read_stamp(word.as_bytes()) {
+    match parse_stamp(word.as_bytes()) {
         Some(minute) => Some(i64::from(minute.get())),
         None => word.parse::<i64>().ok(),
     }
 }
 
-/// Returns the step that is this whole line, or `None`.
+/// Returns the step of a whole line without an argument: `no settings` empties the settings, `file`
+/// the file, `ask` appends an empty line to the input, `record` prints the last record of the file,
+/// `cuts` and `cuts settings` run over each beginning of the file or the settings, and `init`,
+/// `script`, `export`, `upgrade` or `board` runs that command. It is `None` for another line.
 fn bare_step(word: &str) -> Option<Step<'_>> {
     let step = match word {
         "no settings" => Step::NoSettings,
@@ -113,14 +117,16 @@ fn bare_step(word: &str) -> Option<Step<'_>> {
     Some(step)
 }
 
-/// Returns the step of the board at a stamp, or `None` if the word is no stamp.
+/// Returns the step that writes the board at the minute of a stamp such as `180103T1530Z`, or
+/// `None` if the word is no stamp.
 fn board_step(stamp: &str) -> Option<Step<'_>> {
-    let minute = read_stamp(stamp.as_bytes())?;
+    let minute = parse_stamp(stamp.as_bytes())?;
     Some(Step::Board(minute))
 }
 
-/// Returns the step of the words `CALLS`, `twice CALLS` or `upgrade CALLS`, or `None` if they are
-/// not such words.
+/// Returns the step of `rest`, which is `CALLS` for a sweep of the input, `twice CALLS` for one
+/// with each line twice, or `upgrade CALLS` for one of an upgrade. CALLS is the number of calls, at
+/// most 255. It is `None` if `rest` has another form.
 fn sweep_step(rest: &str) -> Option<Step<'_>> {
     match rest.split_once(' ') {
         Some(("upgrade", calls)) => Some(Step::Sweep(Tried::Upgrade, calls_of(calls)?)),
@@ -130,13 +136,17 @@ fn sweep_step(rest: &str) -> Option<Step<'_>> {
     }
 }
 
-/// Returns the step of the words `PLACE BYTE`, or `None` if they are not such words.
+/// Returns the step of `rest`, which is `PLACE BYTE`, or `None` if it has another form. The step
+/// sets the byte PLACE of the file, counted from its end from 1, to BYTE, a number up to 255.
 fn back_step(rest: &str) -> Option<Step<'_>> {
     let (place, byte) = rest.split_once(' ')?;
     Some(Step::Back(number_of(place)?, byte.parse::<u8>().ok()?))
 }
 
-/// Returns the step of a word with a number, or `None`.
+/// Returns the step that `word` names with the number `rest`: a line of so many letters (`long`), a
+/// comment of so many bytes (`comment`), the write of the output (`unwritten`) or the call of the
+/// disk (`failing`) that fails, the last call that may succeed (`stop`), or what a crash leaves
+/// (`pick`). It is `None` for another word, or if `rest` is no decimal number below 2^64.
 fn numbered_step<'a>(word: &str, rest: &'a str) -> Option<Step<'a>> {
     let number = number_of(rest)?;
     match word {
@@ -150,7 +160,10 @@ fn numbered_step<'a>(word: &str, rest: &'a str) -> Option<Step<'a>> {
     }
 }
 
-/// Returns the step of a first word with what comes after it, or `None`.
+/// Returns the step of a line with a first word and, after a blank, an argument: `settings`,
+/// `file`, `older`, `add`, `back`, `ask`, `return`, `unended`, `at`, `board`, `sweep`, or one of
+/// `long`, `comment`, `unwritten`, `failing`, `stop` and `pick`, which take a number. It is `None`
+/// if the line has no blank, the word is another, or the argument has the wrong form.
 fn worded_step(line: &str) -> Option<Step<'_>> {
     let (word, rest) = line.split_once(' ')?;
     match word {
@@ -169,7 +182,8 @@ fn worded_step(line: &str) -> Option<Step<'_>> {
     }
 }
 
-/// Returns the step of a line. An empty line and one that begins with `#` are remarks.
+/// Returns the step that a line is, or `Unread` if it is no step. An empty line and one that begins
+/// with `#` are remarks.
 pub fn step_of(line: &str) -> Step<'_> {
     if is_remark(line) {
         return Step::Remark;

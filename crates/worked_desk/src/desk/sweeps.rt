@@ -27,7 +27,8 @@ pub struct Tally {
 }
 
 impl Tally {
-    /// Counts a run.
+    /// Adds a run to the counts, and to those that differ unless `same`, which says whether the run
+    /// ended as it must.
     fn count(&mut self, same: bool) {
         self.runs = self.runs.saturating_add(1);
         if !same {
@@ -46,7 +47,7 @@ struct Outcome {
 }
 
 impl Outcome {
-    /// Whether two outcomes are equal.
+    /// Whether two outcomes have the same exit status, answers and products.
     fn is_same(&self, other: &Self) -> bool {
         self.status == other.status
             && self.answers.as_slice() == other.answers.as_slice()
@@ -62,7 +63,9 @@ struct Wanted<'a> {
     outcome: Outcome,
 }
 
-/// Returns the outcome of an input over a disk without faults.
+/// Returns what the command `script` leads to with this input and the bytes `file` as its file,
+/// over a disk without faults: its exit status, its answers, and the texts of the office's products
+/// after it.
 fn outcome_of(alloc: Global, given: &Given, file: &[u8]) -> Result<Outcome, Oom> {
     let done = run_command(alloc, "script", given, file, &NO_FAULTS)?;
     let products = exported(alloc, given, done.disk.file().as_slice())?;
@@ -73,12 +76,14 @@ fn outcome_of(alloc: Global, given: &Given, file: &[u8]) -> Result<Outcome, Oom>
     })
 }
 
-/// Whether a run ended without an error, or by a fault of its disk.
-fn is_fair(status: u8) -> bool {
+/// Whether an exit status is that of a run without an error, or of one that a fault of its disk
+/// ended.
+fn is_done_or_disk_fault(status: u8) -> bool {
     status == DONE || status == DISK_FAULT
 }
 
-/// Returns the answers that report no fault of the disk.
+/// Returns the answers, one a line, without those that report a fault of the disk; each line ends
+/// with LF.
 fn without_faults(alloc: Global, answers: &str) -> Result<Text, Oom> {
     let mut text = Text::new(alloc);
     for answer in answers.lines() {
@@ -90,8 +95,9 @@ fn without_faults(alloc: Global, answers: &str) -> Result<Text, Oom> {
     Ok(text)
 }
 
-/// Returns the lines of an input whose answers report no fault of the disk, each with its reading.
-/// No line of the input may be empty.
+/// Returns the input without the lines whose answers report a fault of the disk, each line with its
+/// reading of the clock. `answers` has a line for each line of the input, in order, and the last
+/// reading holds for all lines after it. No line of the input may be empty.
 fn undisturbed(alloc: Global, given: &Given, answers: &str) -> Result<Given, Oom> {
     let mut input = Text::new(alloc);
     let mut readings = List::new(alloc);
@@ -114,8 +120,9 @@ fn undisturbed(alloc: Global, given: &Given, answers: &str) -> Result<Given, Oom
     Ok(Given { input, readings })
 }
 
-/// Whether the lines that met no fault of the disk have the answers that they get if the others are
-/// not sent, and the file that a crash left begins with the records of that run.
+/// Whether the file `left` after a crash keeps what a run with faults answered, which is `answers`,
+/// one a line of the input. The lines whose answers report no fault must get the same answers in a
+/// run of only these lines without faults, and `left` must begin with the records of that run.
 fn answers_are_kept(
     alloc: Global,
     wanted: &Wanted<'_>,
@@ -129,7 +136,8 @@ fn answers_are_kept(
     Ok(told.as_slice() == run.text.as_slice() && kept)
 }
 
-/// Returns the answers to the lines of a run; empty if it ended with an error.
+/// Returns `text`, what a run wrote, as the answers to its lines, or an empty text if `status`, its
+/// exit status, is not 0.
 fn answers_of(status: u8, text: &Text) -> &str {
     if status != DONE {
         return "";
@@ -137,12 +145,13 @@ fn answers_of(status: u8, text: &Text) -> &str {
     text_of(text.as_slice())
 }
 
-/// Whether an input that meets these faults, and then a crash, keeps what was answered, and has the
-/// outcome of a run without faults if it is sent again.
+/// Whether a run of the input with these faults, and then a crash, keeps what it answered. It must
+/// end without an error or by a fault of its disk, and the input, sent again over the file that is
+/// left, must have the exit status, answers and products of a run without faults.
 fn input_survives(alloc: Global, wanted: &Wanted<'_>, faults: &Faults) -> Result<bool, Oom> {
     let first = run_command(alloc, "script", wanted.given, wanted.file, faults)?;
     let Run { status, text, disk } = first;
-    let fair = is_fair(status);
+    let fair = is_done_or_disk_fault(status);
     let left = disk.crashed()?;
     let answers = answers_of(status, &text);
     let kept = answers_are_kept(alloc, wanted, answers, left.as_slice())?;
@@ -150,7 +159,10 @@ fn input_survives(alloc: Global, wanted: &Wanted<'_>, faults: &Faults) -> Result
     Ok(fair && kept && again.is_same(&wanted.outcome))
 }
 
-/// Counts the runs of the input over disks that fail or stop at each call.
+/// Returns how many runs of the input were made, and how many of them did not keep what they
+/// answered through the faults and the crash, or did not come to the same answers and products when
+/// the input was sent again. In each the disk fails at one of the first `calls` calls, or at all
+/// calls after it, and then crashes; six states that a crash may leave are tried for each.
 fn sweep_input(alloc: Global, given: &Given, file: &[u8], calls: u8) -> Result<Tally, Oom> {
     let wanted = Wanted {
         given,
@@ -169,7 +181,9 @@ fn sweep_input(alloc: Global, given: &Given, file: &[u8], calls: u8) -> Result<T
     Ok(tally)
 }
 
-/// Returns a fault at one call, or a stop after it.
+/// Returns the faults of a disk whose call number `call`, from 1, fails, or, if `stops`, all of
+/// whose calls after it fail. `pick` is a number that chooses what a crash leaves of the writes
+/// since the last sync.
 fn faults_at(call: u64, stops: bool, pick: u64) -> Faults {
     let (failing, stop) = if stops {
         (None, Some(call))
@@ -184,17 +198,20 @@ fn faults_at(call: u64, stops: bool, pick: u64) -> Faults {
     }
 }
 
-/// Whether the products after an upgrade that meets these faults, and then a crash, are those
-/// before it.
+/// Whether an upgrade with these faults, and then a crash, leaves the products as they were before
+/// it. It must also end without an error or by a fault of its disk.
 fn upgrade_survives(alloc: Global, wanted: &Wanted<'_>, faults: &Faults) -> Result<bool, Oom> {
     let first = run_command(alloc, "upgrade", wanted.given, wanted.file, faults)?;
-    let fair = is_fair(first.status);
+    let fair = is_done_or_disk_fault(first.status);
     let left = first.disk.crashed()?;
     let products = exported(alloc, wanted.given, left.as_slice())?;
     Ok(fair && products.as_slice() == wanted.outcome.products.as_slice())
 }
 
-/// Counts the upgrades of the file over disks that stop after each call.
+/// Returns how many upgrades of the file were made, and how many of them changed the office's
+/// products or ended by an error other than a fault of the disk. In each the disk fails at all
+/// calls after one of the first `calls` calls and then crashes; six states that a crash may leave
+/// are tried for each.
 fn sweep_upgrade(alloc: Global, given: &Given, file: &[u8], calls: u8) -> Result<Tally, Oom> {
     let wanted = Wanted {
         given,
@@ -215,8 +232,8 @@ fn sweep_upgrade(alloc: Global, given: &Given, file: &[u8], calls: u8) -> Result
     Ok(tally)
 }
 
-/// Returns the input with each line twice, both at the line's reading. No line of the input may be
-/// empty.
+/// Returns the input with each line twice in a row, both with the line's reading of the clock. The
+/// last reading holds for all lines after it. No line of the input may be empty.
 fn with_lines_twice(alloc: Global, given: &Given) -> Result<Given, Oom> {
     let mut input = Text::new(alloc);
     let mut readings = List::new(alloc);
@@ -237,8 +254,9 @@ fn with_lines_twice(alloc: Global, given: &Given) -> Result<Given, Oom> {
     Ok(Given { input, readings })
 }
 
-/// Whether the second answer to each line is that of a disk without faults, and the first one is
-/// too, or reports a fault of the disk.
+/// Whether a run of an input with each line twice has good answers. `answers` has two lines for
+/// each line of the input, in order, and `wanted` the one answer of a run without faults. The
+/// second of the two must be that answer, and the first too, unless it reports a fault of the disk.
 fn second_answers_are_good(answers: &str, wanted: &str) -> bool {
     let mut answers = answers.lines();
     for good in wanted.lines() {
@@ -251,8 +269,9 @@ fn second_answers_are_good(answers: &str, wanted: &str) -> bool {
     answers.next().is_none()
 }
 
-/// Whether an input with each line twice has the answers and products of a run without faults, or a
-/// fault of the disk ended the run.
+/// Whether a run of the input with each line twice has the answers and products of a run without
+/// faults, or was ended by a fault of its disk. In the first case the first answer to a line may
+/// report a fault of the disk.
 fn lines_survive(
     alloc: Global,
     wanted: &Wanted<'_>,
@@ -270,7 +289,10 @@ fn lines_survive(
     Ok(good && products.as_slice() == outcome.products.as_slice())
 }
 
-/// Counts the runs of the input with each line twice over disks that fail at each call.
+/// Returns how many runs of the input with each line twice were made, and how many of them neither
+/// had the answers and products of a run without faults, but for first answers that report a fault
+/// of the disk, nor were ended by such a fault. In each the disk fails at one of the first `calls`
+/// calls.
 fn sweep_twice(alloc: Global, given: &Given, file: &[u8], calls: u8) -> Result<Tally, Oom> {
     let wanted = Wanted {
         given,
@@ -286,7 +308,11 @@ fn sweep_twice(alloc: Global, given: &Given, file: &[u8], calls: u8) -> Result<T
     Ok(tally)
 }
 
-/// Counts the runs of a sweep over the first `calls` calls of a disk.
+/// Returns how many runs a sweep over the first `calls` calls of a disk made, and how many of them
+/// did not keep the answers and products of a run without faults, or ended by an error other than a
+/// fault of the disk. `tried` is what is run at each call: the input, the input with each line
+/// twice, of which a run that the fault ended is not compared, or an upgrade of the file, of which
+/// the products alone are compared.
 ///
 /// # Errors
 ///

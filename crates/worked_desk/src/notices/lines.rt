@@ -2,8 +2,9 @@
 use hazard_types::Oom;
 use std::alloc::Global;
 
-/// Returns the pattern with three digits of the number in place of `###`, and that many minutes, as
-/// hour and minute, in place of `@@@@` after it.
+/// Returns the pattern with `number` as three digits, or as four or five from 1,000 on, in place of
+/// its first `###`, and as `HHMM`, the number as minutes of a day, in place of the first `@@@@`
+/// after that. Digits whose place is missing are added at the end.
 ///
 /// # Errors
 ///
@@ -16,7 +17,8 @@ pub fn numbered_line(alloc: Global, pattern: &str, number: u16) -> Result<String
     Ok(format!(in alloc; "{front}{number:03}{middle}{hour:02}{minute:02}{back}")?)
 }
 
-/// Returns the pattern with the list of the counties MDC001 to `last` in place of `***`.
+/// Returns the pattern with the JSON strings `"MDC001"` to the county with number `last`, separated
+/// by commas, in place of its first `***`. Without `***` they are added at the end.
 ///
 /// # Errors
 ///

@@ -8,7 +8,9 @@ use program_outside::Program;
 use std::alloc::Global;
 use worked_lines::{Given, words_of};
 
-/// Writes the notices of an input, with the words of a line as arguments.
+/// Runs `county_notices` with the words of `line` as arguments, and returns its exit status and
+/// what it wrote. `given` sets the most bytes of a read, at least 1, the most bytes of the input,
+/// at most the program's own limit, and the numbers of the reads and writes that fail.
 ///
 /// # Errors
 ///

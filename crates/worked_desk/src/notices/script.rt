@@ -11,7 +11,9 @@ use worked_lines::add_line;
 #[derive(Clone, Copy, Debug)]
 pub struct Notices;
 
-/// Appends a line of the pattern for each number from 1 to `last`.
+/// Appends to the input, for each number from 1 to `last`, the pattern with the number in it, and
+/// LF. The number stands in place of the first `###`, and as minutes of a day, `HHMM`, in place of
+/// the first `@@@@` after that.
 fn add_each(alloc: Global, stream: &mut Stream, last: u16, pattern: &str) -> Result<(), Oom> {
     for before in 0..last {
         let line = numbered_line(alloc, pattern, before + 1)?;
@@ -21,18 +23,19 @@ fn add_each(alloc: Global, stream: &mut Stream, last: u16, pattern: &str) -> Res
 }
 
 impl Runs for Notices {
-    /// Writes the notices of a stream, with these words as arguments.
+    /// Runs `county_notices` over a stream with these words as arguments, and returns the exit
+    /// status and what it wrote.
     fn run(&mut self, alloc: Global, words: &str, stream: &Stream) -> Result<Run, Oom> {
         run_words(alloc, words, &stream.input, &stream.given)
     }
 
-    /// Returns the number of bytes.
+    /// Returns the line `N bytes` with the number of bytes that the run wrote.
     fn before_last(&self, alloc: Global, bytes: usize) -> Result<String, Oom> {
         Ok(format!(in alloc; "{bytes} bytes\n")?)
     }
 
-    /// Does the step of a line that appends lines of a pattern, and returns that nothing is printed
-    /// for it, or `None` if the line is no such step.
+    /// Appends lines of a pattern to the input if `line` is `each NUMBER PATTERN` or `counties
+    /// NUMBER PATTERN`, and returns an empty text. Returns `None` for another line.
     fn step(&mut self, alloc: Global, on: &mut Stream, line: &str) -> Result<Option<String>, Oom> {
         match step_of(line) {
             Some(Step::Each(last, pattern)) => add_each(alloc, on, last, pattern)?,

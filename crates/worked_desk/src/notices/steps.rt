@@ -10,7 +10,8 @@ pub enum Step<'a> {
 }
 
 /// Returns the step of a line `each NUMBER PATTERN` or `counties NUMBER PATTERN`, or `None` for
-/// another line.
+/// another line. NUMBER is a decimal number below 65,536: the last number put into the pattern, or
+/// how many counties are.
 pub fn step_of(line: &str) -> Option<Step<'_>> {
     let (word, rest) = line.split_once(' ')?;
     let (number, pattern) = rest.split_once(' ')?;

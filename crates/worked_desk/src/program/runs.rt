@@ -21,7 +21,7 @@ pub struct Left {
     pub disk: SureDisk,
 }
 
-/// Returns a disk without a file.
+/// Returns a disk that has room for 200,000 bytes, without a file, and never fails.
 ///
 /// # Errors
 ///
@@ -30,7 +30,7 @@ pub fn new_disk(alloc: Global) -> Result<SureDisk, Oom> {
     SureDisk::new(alloc, ROOM)
 }
 
-/// Returns another disk with the same file.
+/// Returns a new disk with the same file, or its first 200,000 bytes if it has more.
 ///
 /// # Errors
 ///
@@ -45,7 +45,9 @@ pub fn copy_of(alloc: Global, disk: &mut SureDisk) -> Result<SureDisk, Oom> {
     Ok(copy)
 }
 
-/// Runs the program with the words of a line as arguments.
+/// Runs the desk's program with the words of a line as arguments, and returns its exit status and
+/// its disk. An input of more than `limit` bytes, or than the program's own limit, is too long. The
+/// clock reads 2018-01-03 15:30 UTC.
 fn end_of<S: Source, K: Sink>(
     alloc: Global,
     line: &str,
@@ -65,8 +67,8 @@ fn end_of<S: Source, K: Sink>(
     })
 }
 
-/// Runs the program with the words of a line as arguments, over a source and a sink that never
-/// fail.
+/// Runs the desk's program over an input that never fails and an output that is dropped, and
+/// returns its exit status and its disk. The words of `line` are its arguments.
 ///
 /// # Errors
 ///
@@ -76,8 +78,9 @@ pub fn run_surely(alloc: Global, line: &str, input: &Text, disk: SureDisk) -> Re
     end_of(alloc, line, &mut source, &mut SureSink, disk, LIMIT)
 }
 
-/// Runs the program with the words of a line as arguments, and returns how the run ended, and its
-/// disk.
+/// Runs the desk's program with the words of `line` as arguments, and returns its exit status, what
+/// it wrote, and its disk. `given` sets the most bytes of a read, at least 1, the most bytes of the
+/// input, at most the program's own limit, and the numbers of the reads and writes that fail.
 ///
 /// # Errors
 ///

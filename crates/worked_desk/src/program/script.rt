@@ -14,7 +14,8 @@ pub struct Program {
     disk: Option<SureDisk>,
 }
 
-/// Appends requests of desk A that open and discard `count` drafts.
+/// Appends requests of desk A, with numbers from 1 on, that open and discard `count` drafts of
+/// category WSW one after another.
 fn add_drafts(alloc: Global, input: &mut Text, count: u32) -> Result<(), Oom> {
     let mut seq = 0u32;
     for draft in 0..count {
@@ -34,11 +35,13 @@ fn add_drafts(alloc: Global, input: &mut Text, count: u32) -> Result<(), Oom> {
 }
 
 impl Program {
+    /// Returns a value that runs the desk's program, with no disk kept from an earlier run.
     pub fn new() -> Self {
         Program { disk: None }
     }
 
-    /// Returns the disk, or a new one if there is none.
+    /// Returns the disk that the last run left, which is then no longer kept, or a new one if there
+    /// is none.
     fn take_disk(&mut self, alloc: Global) -> Result<SureDisk, Oom> {
         match self.disk.take() {
             Some(disk) => Ok(disk),
@@ -46,8 +49,9 @@ impl Program {
         }
     }
 
-    /// Runs with these words over a source and a sink that never fail, and returns the exit status.
-    /// The input is then empty.
+    /// Runs with these words as arguments over the input of `stream` and an output, neither of
+    /// which ever fails, and returns the line `status N`. The input is then empty, and the disk is
+    /// the one that the run left.
     fn sure_step(
         &mut self,
         alloc: Global,
@@ -62,8 +66,11 @@ impl Program {
         Ok(format!(in alloc; "status {status}\n")?)
     }
 
-    /// Runs with these words, with each of the first calls failing in turn, and returns the counts.
-    /// The disk stays as it is.
+    /// Returns the line `CALLS runs, ENDED ended by a fault, DIFFER differ` of a sweep: runs over
+    /// `input` with `words` as arguments, in which each of the first `calls` reads or writes, as
+    /// `failing` says, fails in turn. DIFFER counts the runs ended by the fault that did not write
+    /// a beginning of what a run without faults writes and then the line of the fault, and the
+    /// others that are not equal to that run. The disk stays as it is.
     fn sweep_step(
         &mut self,
         alloc: Global,
@@ -82,7 +89,8 @@ impl Program {
 }
 
 impl Runs for Program {
-    /// Runs the program over a stream and the disk, with these words as arguments.
+    /// Runs the program over a stream and the disk, with these words as arguments, and returns how
+    /// it ended and what it wrote.
     fn run(&mut self, alloc: Global, words: &str, stream: &Stream) -> Result<Run, Oom> {
         let disk = self.take_disk(alloc)?;
         let (run, disk) = run_words(alloc, words, &stream.input, &stream.given, disk)?;
@@ -90,13 +98,16 @@ impl Runs for Program {
         Ok(run)
     }
 
-    /// Returns nothing.
+    /// Returns an empty text, since nothing is printed before the last line of a run of the
+    /// program.
     fn before_last(&self, alloc: Global, _bytes: usize) -> Result<String, Oom> {
         Ok(String::new(alloc))
     }
 
-    /// Does the step of a line and returns what is printed for it, or `None` if the line is no step
-    /// of `Step`.
+    /// Does the step of a line and returns what is printed for it, or `None` for another line. `no
+    /// file` drops the disk and `drafts COUNT` appends requests that open and discard so many
+    /// drafts to the input, for which nothing is printed. `sure WORDS` runs with no call failing,
+    /// and `sweep KIND CALLS WORDS` with each of the first CALLS reads or writes failing in turn.
     fn step(&mut self, alloc: Global, on: &mut Stream, line: &str) -> Result<Option<String>, Oom> {
         let answer = match step_of(line) {
             Some(Step::Sure(words)) => self.sure_step(alloc, on, words)?,

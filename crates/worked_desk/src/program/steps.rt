@@ -14,8 +14,9 @@ pub enum Step<'a> {
     Sweep(Failing, u32, &'a str),
 }
 
-/// Returns the step of the words `reads CALLS WORDS` or `writes CALLS WORDS`, or `None` if they are
-/// not such words.
+/// Returns the sweep of `rest`, which is `reads CALLS WORDS` or `writes CALLS WORDS`, or `None` if
+/// it is neither. CALLS is a decimal number, of the first calls that fail in turn, and WORDS are
+/// the arguments of the runs.
 fn sweep_step(rest: &str) -> Option<Step<'_>> {
     let (kind, rest) = rest.split_once(' ')?;
     let (calls, words) = rest.split_once(' ')?;
@@ -28,7 +29,8 @@ fn sweep_step(rest: &str) -> Option<Step<'_>> {
 }
 
 /// Returns the step of a line `no file`, `drafts COUNT`, `sure WORDS` or `sweep KIND CALLS WORDS`,
-/// or `None` for another line.
+/// where KIND is `reads` or `writes`. It is `None` for another line, or if COUNT or CALLS is no
+/// decimal number below 2^32.
 pub fn step_of(line: &str) -> Option<Step<'_>> {
     if line == "no file" {
         return Some(Step::NoFile);

@@ -23,7 +23,8 @@ pub struct Tally {
 }
 
 impl Failing {
-    /// Returns the exit status of a run that such a fault ends.
+    /// Returns the exit status of a run that a failed call of this kind ends: 7 for a read, 8 for a
+    /// write.
     fn status(self) -> u8 {
         match self {
             Failing::Reads => 7,
@@ -31,7 +32,7 @@ impl Failing {
         }
     }
 
-    /// Returns the line that a run writes for such a fault.
+    /// Returns the line, with its LF, that a run writes last if a failed call of this kind ends it.
     fn line(self) -> &'static [u8] {
         match self {
             Failing::Reads => b"fault ReadFault\n",
@@ -39,7 +40,8 @@ impl Failing {
         }
     }
 
-    /// Returns an input that comes one byte at a time, where this call fails.
+    /// Returns the settings of a run whose input comes one byte at a time and whose read or write
+    /// number `call` fails. Calls are counted from 1, so none fails if `call` is 0.
     fn given(self, alloc: Global, call: u32) -> Result<Given, Oom> {
         let bad = List::from_slice(alloc, &[u64::from(call)])?;
         let (bad_reads, bad_writes) = match self {
@@ -55,7 +57,7 @@ impl Failing {
     }
 }
 
-/// Whether the text is a beginning of the whole one, and then the line.
+/// Whether `text` is the first bytes of `whole`, any number of them, and then `line`.
 fn is_beginning(text: &[u8], line: &[u8], whole: &[u8]) -> bool {
     match text.strip_suffix(line) {
         Some(front) => whole.starts_with(front),
@@ -63,8 +65,11 @@ fn is_beginning(text: &[u8], line: &[u8], whole: &[u8]) -> bool {
     }
 }
 
-/// Counts the runs with these words over copies of a disk, with each of the first `calls` calls
-/// failing in turn. Each is compared with a run without a fault.
+/// Returns how many runs a fault ended, and how many differ from what they should write, of the
+/// runs in which read or write 1 to `calls` fails, one call in each run. Each runs with the
+/// arguments `words` over a copy of the disk. One that the fault ended should write a beginning of
+/// what a run without a fault writes and then the line of the fault, and any other should be equal
+/// to that run.
 ///
 /// # Errors
 ///
@@ -92,8 +97,9 @@ pub fn sweep(
 }
 
 impl Tally {
-    /// Counts a run. One that a fault ended writes a beginning of what the run without faults
-    /// writes, and the line of the fault; any other writes the same as that run.
+    /// Adds a run to the counts, and compares it with `whole`, the run without faults. A run that a
+    /// fault ended must write a beginning of what `whole` wrote and then the line of the fault; any
+    /// other must be equal to `whole`.
     fn count(&mut self, failing: Failing, run: &Run, whole: &Run) {
         let text = run.text.as_slice();
         let as_defined = if run.status == failing.status() {

@@ -9,13 +9,13 @@ use office_types::{Edition, Query, Refusal};
 use request_json::{Asked, read_request, refusal_text, reply_text};
 use std::alloc::Global;
 
-/// Returns a text with LF.
+/// Returns the text with an LF at its end.
 fn line_of(mut text: Text) -> Result<Text, Oom> {
     text.push(b'\n')?;
     Ok(text)
 }
 
-/// Returns the text of a refusal, on a line.
+/// Returns a refusal as a line of JSON, or errs if memory ran out.
 fn refused(alloc: Global, stop: Or<Refusal>) -> Result<Text, Oom> {
     match stop {
         Or::No(refusal) => line_of(refusal_text(alloc, &refusal)?),
@@ -23,7 +23,8 @@ fn refused(alloc: Global, stop: Or<Refusal>) -> Result<Text, Oom> {
     }
 }
 
-/// Returns the reply to a desk's last request, which was repeated.
+/// Returns the reply that the office keeps to the last accepted request of the desk of `asked`,
+/// which `asked` repeats, as a line of JSON. It is empty if no reply is kept.
 fn kept_answer(alloc: Global, office: &Office, asked: &Asked) -> Result<Text, Oom> {
     match office.kept(asked.desk) {
         Some(reply) => line_of(reply_text(alloc, reply)?),
@@ -31,7 +32,7 @@ fn kept_answer(alloc: Global, office: &Office, asked: &Asked) -> Result<Text, Oo
     }
 }
 
-/// Commits an accepted request, and returns its reply.
+/// Makes an accepted request take effect in the office, and returns its reply as a line of JSON.
 fn committed(alloc: Global, office: &mut Office, prepared: Prepared) -> Result<Text, Oom>
     requires { MayCommit office.old prepared }
 {
@@ -40,8 +41,10 @@ fn committed(alloc: Global, office: &mut Office, prepared: Prepared) -> Result<T
     Ok(text)
 }
 
-/// Submits a request, commits it if it is accepted, and returns its reply or refusal. After
-/// 4,294,967,295 drafts it submits no request.
+/// Has the office judge a request, commits it if it is accepted, and returns its reply or refusal
+/// as a line of JSON; a request that repeats the last accepted one of its desk gets the reply that
+/// the office kept to that. `reading` is the clock's, in minutes since 2000-01-01T00:00Z UTC. Once
+/// 4,294,967,295 drafts were opened it judges nothing and returns `no more drafts` on a line.
 fn submit(alloc: Global, office: &mut Office, asked: &Asked, reading: i64) -> Result<Text, Oom>
     requires { HasForm asked.now }
 {
@@ -58,15 +61,18 @@ fn submit(alloc: Global, office: &mut Office, asked: &Asked, reading: i64) -> Re
     }
 }
 
-/// Returns the request of a text.
+/// Returns the request that a line of JSON is, with its desk and number, or errs with the refusal
+/// if it is no request.
 fn request_in(alloc: Global, text: &str) -> Result<Asked, Or<Refusal>>
     ensures { IfOk result HasForm }
 {
     read_request(alloc, text.as_bytes())
 }
 
-/// Returns the reply to a request as JSON, or the refusal, on a line. The reading of the clock is
-/// minutes since 2000-01-01 00:00 UTC.
+/// Returns the reply to a request, which is committed if it is accepted, or its refusal, as a line
+/// of JSON; `no more drafts` on a line once 4,294,967,295 drafts were opened. `text` is the request
+/// as JSON, and what is no request is refused. `reading` is the clock's, in minutes since
+/// 2000-01-01T00:00Z UTC.
 ///
 /// # Errors
 ///
@@ -83,8 +89,8 @@ pub fn request_answer(
     }
 }
 
-/// Sets the edition of later texts, and returns an empty text; from Two to One it only returns `no
-/// way back`.
+/// Sets the edition in which the office writes product texts from now on, and returns an empty
+/// text. From `Two` to `One` it changes nothing and returns `no way back` on a line.
 ///
 /// # Errors
 ///
@@ -99,13 +105,15 @@ pub fn turn_answer(alloc: Global, office: &mut Office, edition: Edition) -> Resu
     }
 }
 
-/// Returns what a query asks for.
+/// Returns the text that a query asks for, or errs with the refusal. `reading` is the clock's, in
+/// minutes since 2000-01-01T00:00Z UTC.
 fn shown(alloc: Global, office: &Office, q: &Query, reading: i64) -> Result<Text, Or<Refusal>> {
     office.look(alloc, q, reading)
 }
 
-/// Returns what a query asks for, or the refusal, at a reading of the clock in minutes since
-/// 2000-01-01 00:00 UTC. A draft is on a line; other texts are unchanged.
+/// Returns the text that a query asks for, or the refusal as a line of JSON. `reading` is the
+/// clock's, in minutes since 2000-01-01T00:00Z UTC. An LF is appended to a draft; other texts are
+/// unchanged.
 ///
 /// # Errors
 ///

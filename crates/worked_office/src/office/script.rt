@@ -31,18 +31,20 @@ pub struct Script {
     reading: i64,
 }
 
-/// Returns a text.
+/// Returns a copy of `text`, as what is printed for a line.
 fn note(alloc: Global, text: &[u8]) -> Result<Text, Oom> {
     List::from_slice(alloc, text)
 }
 
-/// Returns the minute of a reading, or `None` if it is out of range.
+/// Returns the minute of a reading of the clock, in minutes since 2000-01-01T00:00Z UTC, or `None`
+/// if it is out of the range of `Minute`.
 fn minute_of(reading: i64) -> Option<Minute> {
     let count = u32::try_from(reading).ok()?;
     Minute::new(count)
 }
 
-/// Returns request `seq` of desk A: an issue of FR.Y in zone MDZ003 from now to `end`.
+/// Returns request `seq` of desk A as JSON: an issue of FR.Y (frost advisory) in zone MDZ003 from
+/// now to `end`.
 fn issue_until(alloc: Global, seq: u32, end: Minute) -> Result<String, Oom> {
     let end = stamp(end);
     let end = text_of(&end);
@@ -51,7 +53,7 @@ fn issue_until(alloc: Global, seq: u32, end: Minute) -> Result<String, Oom> {
     )?)
 }
 
-/// Returns the settings of a text, or `None` if it has a fault.
+/// Returns the settings that the text of a settings file gives, or `None` if the text has a fault.
 fn settings_of(alloc: Global, text: &[u8]) -> Result<Option<Settings>, Oom>
     ensures { IfOk result (λ found. IfSome found AreSettings) }
 {
@@ -62,7 +64,8 @@ fn settings_of(alloc: Global, text: &[u8]) -> Result<Option<Settings>, Oom>
     }
 }
 
-/// Returns a new office with the settings of a text, or `None` if it has a fault.
+/// Returns a new office of P-VTEC product class O with the settings that a settings text gives, or
+/// `None` if the text has a fault. `edition` is that of its product texts.
 fn office_of(alloc: Global, text: &[u8], edition: Edition) -> Result<Option<Office>, Oom> {
     let Some(settings) = settings_of(alloc, text)? else {
         return Ok(None);
@@ -72,6 +75,7 @@ fn office_of(alloc: Global, text: &[u8], edition: Edition) -> Result<Option<Offi
 }
 
 impl Script {
+    /// Returns a script without settings and without an office, whose clock reads minute 0.
     pub fn new(alloc: Global) -> Self {
         Script {
             settings: String::new(alloc),
@@ -81,8 +85,8 @@ impl Script {
         }
     }
 
-    /// Appends a line to the settings. The first one after an office was opened begins new
-    /// settings.
+    /// Appends a line with LF to the settings, and returns an empty text. If `open` was called
+    /// since the last line was appended, the settings are emptied before.
     fn add_setting(&mut self, alloc: Global, line: &str) -> Result<Text, Oom> {
         if self.used {
             self.settings = String::new(alloc);
@@ -93,7 +97,9 @@ impl Script {
         note(alloc, b"")
     }
 
-    /// Opens an office with the settings.
+    /// Opens an office with the settings, in place of the one before, and returns `open` on a line.
+    /// `edition` is that of its product texts. If the settings have a fault nothing is opened, and
+    /// it returns `no settings` on a line.
     fn open(&mut self, alloc: Global, edition: Edition) -> Result<Text, Oom> {
         self.used = true;
         let Some(office) = office_of(alloc, self.settings.as_bytes(), edition)? else {
@@ -103,7 +109,9 @@ impl Script {
         note(alloc, b"open\n")
     }
 
-    /// Sets the edition of later texts.
+    /// Sets the edition in which the office writes product texts from now on, and returns an empty
+    /// text. From `Two` to `One` it changes nothing and returns `no way back`, and if no office is
+    /// open `no office`, each on a line.
     fn turn(&mut self, alloc: Global, edition: Edition) -> Result<Text, Oom> {
         match &mut self.office {
             Some(office) => turn_answer(alloc, office, edition),
@@ -111,7 +119,8 @@ impl Script {
         }
     }
 
-    /// Returns the reply to a request.
+    /// Sends a request to the office and returns the reply or the refusal as a line of JSON, or `no
+    /// office` on a line if none is open. `text` is the request as JSON.
     fn request(&mut self, alloc: Global, text: &str) -> Result<Text, Oom> {
         match &mut self.office {
             Some(office) => request_answer(alloc, office, text, self.reading),
@@ -119,7 +128,8 @@ impl Script {
         }
     }
 
-    /// Returns what a query asks for.
+    /// Returns the text that a query asks for, or the refusal as a line of JSON, or `no office` on
+    /// a line if none is open.
     fn look(&self, alloc: Global, q: &Query) -> Result<Text, Oom> {
         match &self.office {
             Some(office) => look_answer(alloc, office, q, self.reading),
@@ -127,7 +137,10 @@ impl Script {
         }
     }
 
-    /// Sets the clock forward, issues with request number `seq`, and returns the reply.
+    /// Sets the clock 11 minutes forward, sends, as request `seq` of desk A, that FR.Y (frost
+    /// advisory) be issued in zone MDZ003 for ten minutes from then, and returns the reply or the
+    /// refusal as a line of JSON. It returns `no such minute` if the end is outside 2000 to 2099,
+    /// and `no office` if none is open, each on a line.
     fn issue_later(&mut self, alloc: Global, seq: u32) -> Result<Text, Oom> {
         self.reading = self.reading.saturating_add(APART);
         match minute_of(self.reading.saturating_add(LASTING)) {
@@ -139,7 +152,10 @@ impl Script {
         }
     }
 
-    /// Issues `count` times, and returns the last reply.
+    /// Sends `count` requests that FR.Y (frost advisory) be issued in zone MDZ003 for ten minutes,
+    /// as requests 1 to `count` of desk A, with the clock set 11 minutes forward before each.
+    /// Returns what the last was answered: its reply or refusal as a line of JSON, or `no such
+    /// minute` or `no office` on a line. It is empty if `count` is 0.
     fn fill(&mut self, alloc: Global, count: u32) -> Result<Text, Oom> {
         let mut answer = note(alloc, b"")?;
         for seq in 1..=count {
@@ -148,7 +164,7 @@ impl Script {
         Ok(answer)
     }
 
-    /// Does a step, and returns what is printed for it.
+    /// Runs a step, and returns what is printed for it. `line` is the line of the step.
     fn step(&mut self, alloc: Global, step: &Step<'_>, line: &str) -> Result<Text, Oom> {
         match step {
             Step::Remark => {
@@ -171,7 +187,8 @@ impl Script {
 }
 
 impl Work for Script {
-    /// Returns what is printed for a line.
+    /// Does the step of a line, and returns what is printed for it; a line that is no other step is
+    /// sent to the office as a request.
     fn work(&mut self, alloc: Global, line: &str) -> Result<String, Oom> {
         let text = self.step(alloc, &step_of(line), line)?;
         shown(alloc, text.as_slice())

@@ -1,5 +1,5 @@
 //! The steps of a script of an office, one a line.
-use hazard_types::read_stamp;
+use hazard_types::parse_stamp;
 use office_types::{Edition, Query};
 
 /// A step of the script.
@@ -23,7 +23,7 @@ pub enum Step<'a> {
     Request,
 }
 
-/// Returns the edition with this name, or `None`.
+/// Returns the edition named `One` or `Two`, or `None` for another word.
 fn edition_of(word: &str) -> Option<Edition> {
     match word {
         "One" => Some(Edition::One),
@@ -32,20 +32,22 @@ fn edition_of(word: &str) -> Option<Edition> {
     }
 }
 
-/// Returns the reading of a stamp or of a number of minutes, or `None`.
+/// Returns the reading of the clock, in minutes since 2000-01-01T00:00Z UTC, that a stamp such as
+/// `180103T1530Z` or a decimal number of minutes gives, or `None` if the word is neither.
 fn reading_of(word: &str) -> Option<i64> {
-    match read_stamp(word.as_bytes()) {
+    match parse_stamp(word.as_bytes()) {
         Some(minute) => Some(i64::from(minute.get())),
         None => word.parse::<i64>().ok(),
     }
 }
 
-/// Returns the word as a decimal number, or `None`.
+/// Returns the number that a decimal word is, or `None` if the word is no number below 2^32.
 fn number_of(word: &str) -> Option<u32> {
     word.parse::<u32>().ok()
 }
 
-/// Returns the query of a word and a number, or `None` if they are not one.
+/// Returns the query that a word, `product`, `after`, `draft` or `preview`, names, with the number
+/// `rest`. `None` for another word, or if `rest` is no number below 2^32.
 fn query_of(word: &str, rest: &str) -> Option<Query> {
     let number = number_of(rest)?;
     match word {
@@ -57,7 +59,11 @@ fn query_of(word: &str, rest: &str) -> Option<Query> {
     }
 }
 
-/// Returns the step of a first word with what comes after it, or `None` if the line is a request.
+/// Returns the step of a line `board`, `> SETTING`, `open EDITION`, `edition EDITION`, `at
+/// READING`, `fill NUMBER`, or `product`, `after`, `draft` or `preview` with a NUMBER. EDITION is
+/// `One` or `Two`, READING a stamp as `180103T1530Z` or a decimal number of minutes since
+/// 2000-01-01T00:00Z UTC, and NUMBER a decimal number below 2^32. `None` if the line has no such
+/// form; it is a request then.
 fn worded_step(line: &str) -> Option<Step<'_>> {
     if line == "board" {
         return Some(Step::Look(Query::Board));
@@ -74,8 +80,8 @@ fn worded_step(line: &str) -> Option<Step<'_>> {
     Some(step)
 }
 
-/// Returns the step of a line. An empty line and one that begins with `#` are remarks; one that has
-/// no other step is a request.
+/// Returns the step of a line. An empty line and one that begins with `#` are remarks, and one that
+/// has the form of no other step is a request.
 pub fn step_of(line: &str) -> Step<'_> {
     if line.is_empty() || line.starts_with('#') {
         return Step::Remark;

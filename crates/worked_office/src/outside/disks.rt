@@ -20,7 +20,9 @@ enum Call {
 }
 
 /// Returns the call of a word `len`, `sync`, `read:AT:COUNT`, `write:AT:BYTES` or `put:AT:BYTES`,
-/// or `None` for another word.
+/// or `None` for another word. AT is the index of a byte of the file, from 0 and below 2^32, and
+/// COUNT a number of bytes below 65,536. In BYTES `\` and two hex digits are one byte, and `_`
+/// alone is no byte.
 fn call_of(alloc: Global, word: &str) -> Result<Option<Call>, Oom> {
     match word {
         "len" => return Ok(Some(Call::Len)),
@@ -54,7 +56,7 @@ fn call_of(alloc: Global, word: &str) -> Result<Option<Call>, Oom> {
     }
 }
 
-/// Appends `ok` or `failed`.
+/// Appends `ok` if the call of a disk succeeded, or `failed`.
 fn add_done(answer: &mut String, done: Result<(), Failed>) -> Result<(), Oom> {
     match done {
         Ok(()) => add(answer, "ok"),
@@ -62,7 +64,7 @@ fn add_done(answer: &mut String, done: Result<(), Failed>) -> Result<(), Oom> {
     }
 }
 
-/// Appends the length of the file, or `failed`.
+/// Asks a disk for the length of its file, and appends it in decimal, or `failed`.
 fn tell_len<D: Disk>(alloc: Global, disk: &mut D, answer: &mut String) -> Result<(), Oom> {
     match disk.len() {
         Ok(len) => add(answer, format!(in alloc; "{len}")?.as_str()),
@@ -70,12 +72,13 @@ fn tell_len<D: Disk>(alloc: Global, disk: &mut D, answer: &mut String) -> Result
     }
 }
 
-/// Syncs, and appends `ok` or `failed`.
+/// Syncs a disk, and appends `ok` or `failed`.
 fn tell_sync<D: Disk>(disk: &mut D, answer: &mut String) -> Result<(), Oom> {
     add_done(answer, disk.sync())
 }
 
-/// Appends the `count` bytes read at place `at`, or `failed`.
+/// Reads `count` bytes at byte `at` of the file, counted from 0, and appends `read` and the bytes
+/// as a word, or `failed`. The bytes lie within the file.
 fn tell_read<D: Disk>(
     alloc: Global,
     disk: &mut D,
@@ -95,22 +98,25 @@ fn tell_read<D: Disk>(
     }
 }
 
-/// Writes at place `at`, and appends `ok` or `failed`.
+/// Writes bytes at byte `at` of the file, counted from 0 and at most its length, and appends `ok`
+/// or `failed`.
 fn tell_write<D: Disk>(disk: &mut D, at: u64, bytes: &Text, answer: &mut String) -> Result<(), Oom>
     requires { IsWithin at (D.seen disk.old) }
 {
     add_done(answer, disk.write_at(at, bytes.as_slice()))
 }
 
-/// Writes at place `at` and syncs, and appends `ok` or `failed`.
+/// Writes bytes at byte `at` of the file, counted from 0 and at most its length, and syncs, and
+/// appends `ok` or `failed`.
 fn tell_put<D: Disk>(disk: &mut D, at: u64, bytes: &Text, answer: &mut String) -> Result<(), Oom>
     requires { IsWithin at (D.seen disk.old) }
 {
     add_done(answer, write_synced(disk, at, bytes.as_slice()))
 }
 
-/// Makes a call of a disk in memory, and appends what it returned, or `outside` for a call past the
-/// end of the file, which is not made.
+/// Makes a call of a disk in memory, and appends to `answer` what it returned: a length, `read` and
+/// the bytes, `ok`, or `failed`. A read beyond the end of the file, or a write that starts beyond
+/// it, is not made, and `outside` is appended.
 fn make(alloc: Global, disk: &mut MemDisk, call: &Call, answer: &mut String) -> Result<(), Oom> {
     let len = disk.file().len() as u64;
     match call {
@@ -137,7 +143,8 @@ fn make(alloc: Global, disk: &mut MemDisk, call: &Call, answer: &mut String) -> 
     }
 }
 
-/// Makes a call of a disk that never fails, and appends what it returned.
+/// Makes a call of a disk that never fails, and appends to `answer` what it returned: a length,
+/// `read` and the bytes, or `ok`.
 fn make_sure(
     alloc: Global,
     disk: &mut SureDisk,
@@ -153,7 +160,8 @@ fn make_sure(
     }
 }
 
-/// Returns the letter of a call that a disk in memory has recorded, a small one if the call failed.
+/// Returns the letter of a call that a disk in memory has recorded: `L` for a length, `R` for a
+/// read, `W` for a write, `S` for a sync. It is a small letter if the call failed.
 fn noted(call: &DiskCall) -> &'static str {
     match call {
         DiskCall::Looked => "L",
@@ -167,7 +175,8 @@ fn noted(call: &DiskCall) -> &'static str {
     }
 }
 
-/// Returns a disk in memory with these bytes and faults.
+/// Returns a disk in memory with the bytes of `told` as its file. `told` also gives the calls that
+/// fail, the last call that may succeed, and what a crash leaves of the writes.
 ///
 /// # Errors
 ///
@@ -177,7 +186,7 @@ pub fn disk_of(alloc: Global, told: &Told) -> Result<MemDisk, Oom> {
     MemDisk::new(alloc, bytes, &told.failing, told.stop, told.pick)
 }
 
-/// Returns a disk in memory with this file and no fault.
+/// Returns a disk in memory with this file, of which no call fails.
 ///
 /// # Errors
 ///
@@ -187,7 +196,7 @@ pub fn disk_with(alloc: Global, file: &[u8]) -> Result<MemDisk, Oom> {
     MemDisk::new(alloc, file, &none, None, 0)
 }
 
-/// Returns the file that a crash leaves.
+/// Returns the file that a crash now leaves of a disk in memory.
 ///
 /// # Errors
 ///
@@ -196,7 +205,7 @@ pub fn left_by(disk: MemDisk) -> Result<Text, Oom> {
     disk.crashed()
 }
 
-/// Appends the letters of the calls that a disk has recorded.
+/// Appends `; calls ` and the letters of the calls that a disk in memory has recorded, in order.
 fn add_noted(answer: &mut String, disk: &MemDisk) -> Result<(), Oom> {
     answer.push_str("; calls ")?;
     for call in disk.calls() {
@@ -205,7 +214,7 @@ fn add_noted(answer: &mut String, disk: &MemDisk) -> Result<(), Oom> {
     Ok(())
 }
 
-/// Appends a disk's file.
+/// Appends `; file ` and the bytes of the file of a disk in memory.
 ///
 /// # Errors
 ///
@@ -214,8 +223,10 @@ pub fn add_file(answer: &mut String, disk: &MemDisk) -> Result<(), Oom> {
     add_part(answer, "file", disk.file().as_slice())
 }
 
-/// Returns what the calls of a disk returned, the letters of the calls that it recorded, its file,
-/// and the file that a crash leaves.
+/// Returns what each call of a disk in memory returned, or `unread` for a word that is no call,
+/// then the letters of the recorded calls, the file, and the file that a crash leaves. `told` gives
+/// the file and the faults. `calls` are words `len`, `sync`, `read:AT:COUNT`, `write:AT:BYTES` and
+/// `put:AT:BYTES` (a write and a sync), where AT is the index of a byte, from 0.
 ///
 /// # Errors
 ///
@@ -236,7 +247,10 @@ pub fn disk_row(alloc: Global, told: &Told, calls: &str) -> Result<String, Oom> 
     Ok(answer)
 }
 
-/// Returns what the calls of a disk that never fails returned. The disk has room for `piece` bytes.
+/// Returns what each call of a disk that never fails returned, or `unread` for a word that is no
+/// call. The disk has an empty file at first and room for `told.piece` bytes. `calls` are words
+/// `len`, `sync`, `read:AT:COUNT`, `write:AT:BYTES` and `put:AT:BYTES` (a write and a sync), where
+/// AT is the index of a byte, from 0.
 ///
 /// # Errors
 ///

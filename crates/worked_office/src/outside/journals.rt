@@ -7,8 +7,8 @@ use hazard_types::Oom;
 use journal_core::{AdoptFault, AppendFault, CreateFault, Journal, Packet};
 use std::alloc::Global;
 
-/// Returns the body of a record, or `None` if the word cannot be read as bytes or has more than
-/// 65,536.
+/// Returns the body of a journal record that a word gives, or `None` if the word does not give
+/// bytes or has more than 65,536 of them.
 fn packet_of(alloc: Global, word: &str) -> Result<Option<Packet>, Oom> {
     match bytes_of(alloc, word)? {
         Some(bytes) if bytes.len() <= 65_536 => Ok(Some(Packet::new(alloc, bytes.as_slice())?)),
@@ -16,7 +16,8 @@ fn packet_of(alloc: Global, word: &str) -> Result<Option<Packet>, Oom> {
     }
 }
 
-/// Appends a record to a journal, and returns `ok`, `full` or `failed`.
+/// Appends a record with the body `body` to a journal, and returns `ok`, `full` if the journal has
+/// no room for it, or `failed` if the disk fails.
 fn added<D: Disk>(journal: &mut Journal<D>, body: &Packet) -> &'static str {
     match journal.append(body) {
         Ok(()) => "ok",
@@ -25,7 +26,8 @@ fn added<D: Disk>(journal: &mut Journal<D>, body: &Packet) -> &'static str {
     }
 }
 
-/// Returns the number of bodies of the journal on a disk, or why it has none.
+/// Returns how many record bodies the journal on a disk has, or errs with why the disk has no
+/// journal that can be read.
 fn adopted<D: Disk + Drop>(alloc: Global, disk: D) -> Result<usize, AdoptFault> {
     match Journal::adopt(alloc, disk) {
         Ok((_journal, bodies)) => Ok(bodies.len()),
@@ -33,23 +35,26 @@ fn adopted<D: Disk + Drop>(alloc: Global, disk: D) -> Result<usize, AdoptFault> 
     }
 }
 
-/// Returns a journal whose first record has this body, or the disk and why there is none.
+/// Returns a new journal on a disk whose first record has this body, or errs with the disk and why
+/// none was made.
 fn created<D: Disk>(disk: D, body: &Packet) -> Result<Journal<D>, (D, CreateFault)> {
     Journal::create(disk, body)
 }
 
-/// Returns the disk of a journal.
+/// Returns the disk that the journal is written on.
 fn disk_under<D: Disk>(journal: Journal<D>) -> D {
     journal.into_disk()
 }
 
-/// Returns the number of bodies of a file, or why it is no journal.
+/// Returns how many record bodies the bytes `file` have as a journal, or the fault for which they
+/// are no journal. The outer `Err` is that memory ran out.
 fn bodies_in(alloc: Global, file: &[u8]) -> Result<Result<usize, AdoptFault>, Oom> {
     let disk = disk_with(alloc, file)?;
     Ok(adopted(alloc, disk))
 }
 
-/// Appends the number of bodies of a file, or why it is no journal.
+/// Appends how many record bodies a journal file has, or why the file is no journal: `damaged at`
+/// the index of a byte, `disk fault`, or `fresh` for a file in which no journal was made.
 fn add_opened(alloc: Global, file: &[u8], answer: &mut String) -> Result<(), Oom> {
     match bodies_in(alloc, file)? {
         Ok(count) => answer.push_str(format!(in alloc; "{count}")?.as_str())?,
@@ -63,7 +68,9 @@ fn add_opened(alloc: Global, file: &[u8], answer: &mut String) -> Result<(), Oom
     Ok(())
 }
 
-/// Appends a record to a journal for each word, and returns its disk.
+/// Appends a record to a journal for each word, which gives its body, and returns the disk of the
+/// journal. For each word it adds to `answer` `ok`, `full` if the journal has no room, `failed` if
+/// the disk fails, or `unread` if the word gives no body.
 fn appended(
     alloc: Global,
     mut journal: Journal<MemDisk>,
@@ -79,7 +86,11 @@ fn appended(
     Ok(disk_under(journal))
 }
 
-/// Creates a journal on a disk, appends a record for each word, and returns the disk.
+/// Creates a journal on a disk with `body` in its first record, appends a record for each of the
+/// words, which give bodies, and returns the disk. It adds to `answer` `made` and for each word
+/// `ok`, `full` if the journal has no room, `failed` if the disk fails, or `unread` if the word
+/// gives no body. If no journal was made it appends no record and adds only `not fresh`, or `not
+/// made` if the disk failed.
 fn journal_over(
     alloc: Global,
     disk: MemDisk,
@@ -101,8 +112,9 @@ fn journal_over(
     Ok(disk)
 }
 
-/// Returns what the creation of a journal with the first word, and the appending of the others,
-/// returned; then the file, and the number of bodies that a crash leaves.
+/// Returns what is printed for a journal on the disk that `told` gives: whether it was made with
+/// the first word as its first body, what appending each other word returned, the file, and how
+/// many bodies a crash leaves. It is `unread` if the first word gives no body.
 ///
 /// # Errors
 ///
@@ -122,7 +134,9 @@ pub fn journal_row(alloc: Global, told: &Told, words: &str) -> Result<String, Oo
     Ok(answer)
 }
 
-/// Returns the number of bodies of the bytes, or why they are no journal.
+/// Returns how many record bodies the bytes of `told` have as a journal file, or why they are no
+/// journal: `damaged at` the index of a byte, `disk fault`, or `fresh` for a file in which no
+/// journal was made.
 ///
 /// # Errors
 ///
@@ -133,7 +147,8 @@ pub fn opened_row(alloc: Global, told: &Told) -> Result<String, Oom> {
     Ok(answer)
 }
 
-/// Returns a journal of one body of `count` bytes `x`.
+/// Returns a file in the form of a journal with one record, whose body is `count` bytes `x`. It is
+/// no journal if a body may not have so many bytes.
 fn long_file(alloc: Global, count: u32) -> Result<Vec<u8>, Oom> {
     let mut file = Vec::new(alloc);
     file.push(b'G')?;
@@ -143,7 +158,8 @@ fn long_file(alloc: Global, count: u32) -> Result<Vec<u8>, Oom> {
     Ok(file)
 }
 
-/// Returns the number of bodies of a journal of one body of `pick` bytes, or why it is no journal.
+/// Returns how many record bodies a file in the form of a journal with one body of `told.pick`
+/// bytes has, or why it is no journal. It is empty if `told.pick` is 2^32 or more.
 ///
 /// # Errors
 ///

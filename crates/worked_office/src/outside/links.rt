@@ -6,7 +6,8 @@ use desk_links::{Link, MemLink, MemPeer, Peer};
 use hazard_types::Oom;
 use std::alloc::Global;
 
-/// Makes the calls of a link, `read:ROOM` and `write:BYTES`, and appends what they returned.
+/// Makes the calls of a link, the words `read:ROOM` and `write:BYTES`, and appends to `answer` what
+/// each returned, or `unread` for another word. ROOM is the size in bytes of the buffer of a read.
 fn talk<L: Link>(alloc: Global, link: &mut L, calls: &str, answer: &mut String) -> Result<(), Oom> {
     for call in calls.split_whitespace() {
         match call.split_once(':') {
@@ -18,7 +19,8 @@ fn talk<L: Link>(alloc: Global, link: &mut L, calls: &str, answer: &mut String) 
     Ok(())
 }
 
-/// Returns a link with these bytes and faults.
+/// Returns a link in memory whose other side sends the bytes of `told`. `told` also gives the most
+/// bytes that a read returns and the numbers of the calls that fail.
 ///
 /// # Errors
 ///
@@ -27,7 +29,9 @@ pub fn link_of(alloc: Global, told: &Told) -> Result<MemLink, Oom> {
     MemLink::new(alloc, told.bytes.as_slice(), told.piece, &told.failing)
 }
 
-/// Returns what the calls of a link returned, and the bytes written on it.
+/// Returns what each call of a link in memory returned, and the bytes written on the link. `told`
+/// gives the bytes that the other side sends and the faults, and `calls` are words `read:ROOM` and
+/// `write:BYTES`, where ROOM is the size of a buffer in bytes.
 ///
 /// # Errors
 ///
@@ -40,9 +44,9 @@ pub fn link_row(alloc: Global, told: &Told, calls: &str) -> Result<String, Oom> 
     Ok(answer)
 }
 
-/// Reads a peer once by `read_some`, with a buffer of `room` bytes, and appends what was read, or
-/// `failed`. With no room it does nothing.
-fn hear_once<P: Peer>(
+/// Reads once from a peer, the client's side of a link, with a buffer of `room` bytes, and appends
+/// the number of bytes and the bytes, or `failed`. With no room it does nothing.
+fn read_peer_once<P: Peer>(
     alloc: Global,
     peer: &mut P,
     room: u16,
@@ -61,8 +65,9 @@ fn hear_once<P: Peer>(
     }
 }
 
-/// Returns what the calls of a peer, and one more read of two bytes by `read_some`, returned, and
-/// the bytes written on it.
+/// Returns what each call of a peer, the client's side of a link, and one more read of two bytes by
+/// `read_some` returned, and the bytes written. `told` gives the bytes that the other side sends
+/// and the faults, and `calls` are words `read:ROOM` and `write:BYTES`.
 ///
 /// # Errors
 ///
@@ -71,7 +76,7 @@ pub fn peer_row(alloc: Global, told: &Told, calls: &str) -> Result<String, Oom> 
     let mut answer = String::new(alloc);
     let mut peer = MemPeer::new(link_of(alloc, told)?);
     talk(alloc, &mut peer, calls, &mut answer)?;
-    hear_once(alloc, &mut peer, 2, &mut answer)?;
+    read_peer_once(alloc, &mut peer, 2, &mut answer)?;
     add_part(&mut answer, "written", peer.written().as_slice())?;
     Ok(answer)
 }

@@ -1,6 +1,6 @@
 //! Rows of ports with their doors, and of dialers.
 ghost use Rattle.std.specs.Prelude.{◌≡◌, ◌≤◌, [], All, length, IfOk, IfSome, OnOk};
-ghost use Rattle.desk_links.specs.LinkMemory.{IsUntouched, IsIdle, all_links};
+ghost use Rattle.desk_links.specs.LinkMemory.{IsUntouched, IsIdle};
 
 use crate::outside::words::{add, add_bytes, bytes_of, numbers_of, unread};
 use byte_streams::write_whole;
@@ -8,8 +8,8 @@ use desk_links::{Dialer, Door, Link, MemDialer, MemDoor, MemLink, MemPort, Port}
 use hazard_types::{List, Oom};
 use std::alloc::Global;
 
-/// Returns a link for each word between commas, with the word's bytes, or an empty list for `-`. A
-/// word that cannot be read as bytes is left out.
+/// Returns a link in memory for each word between commas, with the word's bytes, or an empty list
+/// for `-`. A word that does not give bytes is left out.
 fn links_of(alloc: Global, words: &str) -> Result<List<MemLink>, Oom>
     ensures { IfOk result (All IsUntouched) }
 {
@@ -26,7 +26,8 @@ fn links_of(alloc: Global, words: &str) -> Result<List<MemLink>, Oom>
     Ok(links)
 }
 
-/// Returns a list of links for each part between `/`.
+/// Returns a list of links in memory for each part between `/`: one link for each word between
+/// commas, or none for `-`. A link gives the bytes of its word.
 fn lists_of(alloc: Global, words: &str) -> Result<List<List<MemLink>>, Oom>
     ensures { IfOk result (All (λ list. All IsUntouched list)) }
 {
@@ -37,7 +38,9 @@ fn lists_of(alloc: Global, words: &str) -> Result<List<List<MemLink>>, Oom>
     Ok(lists)
 }
 
-/// Returns a list of numbers for each part between `/`. A part that cannot be read is left out.
+/// Returns for each part between `/` the list of its numbers, which are between commas, or an empty
+/// list for `-`. They are the numbers of the accepts that fail; a part that has neither form is
+/// left out.
 fn failing_of(alloc: Global, words: &str) -> Result<List<List<u64>>, Oom> {
     let mut lists = List::new(alloc);
     for list in words.split('/') {
@@ -48,8 +51,8 @@ fn failing_of(alloc: Global, words: &str) -> Result<List<List<u64>>, Oom> {
     Ok(lists)
 }
 
-/// Reads a link once, at most eight bytes, writes them on it, and returns it. Appends the bytes, or
-/// `silent`.
+/// Reads at most eight bytes from a link, writes them on it, and returns the link. It appends the
+/// bytes that were read, or `silent` if the read failed.
 fn echoed<L: Link + Drop>(mut link: L, answer: &mut String) -> Result<L, Oom> {
     let mut buffer = [0; 8];
     match link.read(&mut buffer) {
@@ -63,8 +66,9 @@ fn echoed<L: Link + Drop>(mut link: L, answer: &mut String) -> Result<L, Oom> {
     Ok(link)
 }
 
-/// Accepts a link `visits` times, echoes what it has, and returns it to the door. Appends the bytes,
-/// or `failed`.
+/// Accepts a link at a door `visits` times, reads and writes back at most eight bytes on each, and
+/// returns it to the door. For each it appends the bytes, `silent` if the read failed, or `failed`
+/// if the accept did.
 fn visit_all(door: &mut MemDoor, visits: u8, answer: &mut String) -> Result<(), Oom>
     requires { IsIdle door.old }
     ensures none_out { OnOk result (door.new.given ≡ length door.new.back) }
@@ -79,7 +83,9 @@ fn visit_all(door: &mut MemDoor, visits: u8, answer: &mut String) -> Result<(), 
     Ok(())
 }
 
-/// Visits each door `visits` times, and returns it to the port.
+/// Accepts a link `visits` times at each door, reads and writes back at most eight bytes on each,
+/// and returns the door to the port. For each visit it appends the bytes, `silent` if the read
+/// failed, or `failed` if the accept did.
 fn visit_doors(
     port: &mut MemPort,
     doors: List<MemDoor>,
@@ -97,7 +103,8 @@ fn visit_doors(
     Ok(())
 }
 
-/// Appends what was written on the links, by the doors that took them back.
+/// Appends `; back` and the bytes written on each link that was returned, with a `/` before those
+/// of each door.
 fn add_back(answer: &mut String, port: &MemPort) -> Result<(), Oom> {
     answer.push_str("; back")?;
     for links in port.links() {
@@ -110,7 +117,9 @@ fn add_back(answer: &mut String, port: &MemPort) -> Result<(), Oom> {
     Ok(())
 }
 
-/// Returns a port of these lists of links, where these accepts of each door fail.
+/// Returns a port in memory with a door for each part of `lists` between `/`, which gives a link
+/// for each word between commas. `failing` gives for each door, between `/` too, the numbers, from
+/// 1, of the accepts that fail.
 fn port_of(alloc: Global, lists: &str, failing: &str) -> Result<MemPort, Oom>
     ensures { IfOk result (λ port. port.back ≡ []) }
 {
@@ -118,7 +127,8 @@ fn port_of(alloc: Global, lists: &str, failing: &str) -> Result<MemPort, Oom>
     MemPort::new(alloc, lists_of(alloc, lists)?, &failing)
 }
 
-/// Returns `count` doors of a port that listens at 8080, or `None` if it fails.
+/// Returns `count` doors of a port that listens at TCP port number 8080, or `None` if the listening
+/// fails.
 fn doors_of(port: &mut MemPort, count: u8) -> Option<List<MemDoor>>
     ensures idle { IfSome result (All IsIdle) }
     ensures few { IfSome result (λ doors. length doors ≤ 255) }
@@ -127,7 +137,8 @@ fn doors_of(port: &mut MemPort, count: u8) -> Option<List<MemDoor>>
     port.listen(8080, count as usize).ok()
 }
 
-/// Visits each of `doors` doors of a port `visits` times.
+/// Listens for `doors` doors of a port, accepts a link `visits` times at each, and appends what
+/// each visit read, `silent` or `failed`. It does nothing if the listening fails.
 fn visit_port(port: &mut MemPort, doors: u8, visits: u8, answer: &mut String) -> Result<(), Oom>
     requires new { port.old.back ≡ [] }
 {
@@ -137,8 +148,10 @@ fn visit_port(port: &mut MemPort, doors: u8, visits: u8, answer: &mut String) ->
     }
 }
 
-/// Returns what the visits of a port's doors returned, and what was written on the links: `port
-/// LINKS FAILING DOORS : VISITS`.
+/// Returns what is printed for a port: what each visit of a door read, and the bytes written on the
+/// returned links. `words` are `LINKS FAILING DOORS`: the links of each door, the numbers of its
+/// failing accepts, and the number of doors. It is `unread` if DOORS or `visits`, the accepts at
+/// each door, is no number below 256.
 ///
 /// # Errors
 ///
@@ -159,8 +172,9 @@ pub fn port_row(alloc: Global, words: &str, visits: &str) -> Result<String, Oom>
     Ok(answer)
 }
 
-/// Dials a link `dials` times, echoes what it has, and returns it to the dialer. Appends the bytes,
-/// or `failed`.
+/// Dials a link `dials` times, reads and writes back at most eight bytes on each, and returns it to
+/// the dialer. For each it appends the bytes, `silent` if the read failed, or `failed` if the dial
+/// did.
 fn dial_all(dialer: &mut MemDialer, dials: u8, answer: &mut String) -> Result<(), Oom>
     requires { IsIdle dialer.old }
 {
@@ -173,14 +187,15 @@ fn dial_all(dialer: &mut MemDialer, dials: u8, answer: &mut String) -> Result<()
     Ok(())
 }
 
-/// Returns a dialer of these links, where these dials fail.
+/// Returns a dialer in memory that lends these links, one a word between commas. `failing` are the
+/// numbers, from 1, of the dials that fail.
 fn dialer_of(alloc: Global, links: &str, failing: &List<u64>) -> Result<MemDialer, Oom>
     ensures { IfOk result IsIdle }
 {
     MemDialer::new(alloc, links_of(alloc, links)?, failing)
 }
 
-/// Appends what was written on the links that a dialer took back.
+/// Appends `; back` and the bytes written on each link that was returned to a dialer.
 fn add_dialed(answer: &mut String, dialer: &MemDialer) -> Result<(), Oom> {
     answer.push_str("; back")?;
     for link in dialer.links() {
@@ -190,8 +205,10 @@ fn add_dialed(answer: &mut String, dialer: &MemDialer) -> Result<(), Oom> {
     Ok(())
 }
 
-/// Returns what the dials returned, and what was written on the links: `dialer LINKS FAILING :
-/// DIALS`.
+/// Returns what is printed for a dialer: what each dialed link read, and the bytes written on the
+/// returned links. `words` are `LINKS FAILING`, the words of the links and the numbers of the dials
+/// that fail. It is `unread` if FAILING gives no numbers or `dials`, the number of dials, is no
+/// number below 256.
 ///
 /// # Errors
 ///

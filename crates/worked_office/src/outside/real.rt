@@ -33,8 +33,10 @@ impl Write for Broken {
     }
 }
 
-/// Returns what each read of a source over the bytes returned, and a write to a sink that keeps
-/// nothing.
+/// Returns what is printed for reads of a source over a reader of the standard library that gives
+/// the bytes of `told`, for each the number of bytes and the bytes, and for one write to a sink
+/// that keeps nothing, `ok` or `failed`. Each word of `calls` is a read, and gives the size of its
+/// buffer in bytes; for one that is no number below 65,536 `unread` is printed.
 ///
 /// # Errors
 ///
@@ -50,7 +52,8 @@ pub fn std_row(alloc: Global, told: &Told, calls: &str) -> Result<String, Oom> {
     Ok(answer)
 }
 
-/// Returns what a read and two writes of a broken stream returned.
+/// Returns what is printed for a read, a write of `abc` and a write of no byte on standard streams
+/// whose reads fail and whose writes take no byte: `ok` or `failed` for each.
 ///
 /// # Errors
 ///
@@ -68,13 +71,13 @@ pub fn broken_row(alloc: Global) -> Result<String, Oom> {
 /// The name of the file, which is removed when its row ends.
 const NAME: &str = "real.disk";
 
-/// Returns `ok` or `failed`.
+/// Returns `ok` for `true`, or `failed`.
 fn said(is_ok: bool) -> &'static str {
     if is_ok { "ok" } else { "failed" }
 }
 
-/// Appends what the calls of a disk returned: a write with a sync, the length, a read within the
-/// file, and one past its end.
+/// Appends what the calls of a disk over a file returned: a write with a sync, the length, a read
+/// within the file, and one beyond its end.
 fn try_disk(alloc: Global, disk: &mut FileDisk, answer: &mut String) -> Result<(), Oom> {
     let mut bytes = [0; 2];
     add(answer, said(write_synced(disk, 0, b"abcd").is_ok()))?;
@@ -87,7 +90,9 @@ fn try_disk(alloc: Global, disk: &mut FileDisk, answer: &mut String) -> Result<(
     add(answer, said(disk.read_at(3, &mut bytes).is_ok()))
 }
 
-/// Returns what the calls of a disk over a file returned, and two calls of a disk without a file.
+/// Returns what is printed for calls of a disk over the file `real.disk`, which is removed after
+/// them, and for a look at the length and a sync of a disk without a file: for each call `ok` or
+/// `failed`, but for the file also its length in decimal and the bytes that were read.
 ///
 /// # Errors
 ///
@@ -110,7 +115,8 @@ pub fn file_row(rt: &HostRuntime) -> Result<String, Oom> {
 /// The minutes from 2000-01-01 to 2020-01-01, both at 00:00 UTC.
 const TO_2020: i64 = 10_519_200;
 
-/// Returns `ok` if the system's clock is past 2020-01-01, and `ok` if it does not go back.
+/// Returns two words with a comma between them: whether the system's clock is after 2020-01-01, and
+/// whether it does not go back, each `ok` or `failed`.
 ///
 /// # Errors
 ///
@@ -128,8 +134,9 @@ pub fn system_clock_row(rt: &HostRuntime) -> Result<String, Oom> {
 /// The first port number that is tried.
 const FIRST: u16 = 48_600;
 
-/// Returns the bytes of a peer, read until at least `count` came or a read failed.
-fn hear_all(
+/// Returns the bytes that at most `count` reads of a peer, the client's side of a link, give. It
+/// stops once there are `count` or more, or a read fails.
+fn read_peer_bytes(
     alloc: Global,
     peer: &mut TcpPeer<&HostRuntime>,
     count: usize,
@@ -147,8 +154,8 @@ fn hear_all(
     Ok(heard)
 }
 
-/// Accepts a link, reads its question, writes an answer and returns the link to the door. Returns
-/// whether a link came.
+/// Accepts a link at a door, reads at most three bytes, writes `answer` on it and returns it to the
+/// door; appends the bytes and `ok` or `failed`. Returns whether a link came.
 fn try_door(door: &mut TcpDoor<&HostRuntime>, answer: &mut String) -> Result<bool, Oom>
     requires door { door.old.given ≡ door.old.returned }
     requires first { door.old.returned ≡ 0 }
@@ -166,7 +173,8 @@ fn try_door(door: &mut TcpDoor<&HostRuntime>, answer: &mut String) -> Result<boo
     Ok(true)
 }
 
-/// Appends the answer that a peer reads, and whether a read after it succeeds.
+/// Reads from a peer, the client's side of a link, until it has six bytes or a read fails, and
+/// appends the bytes. Then it reads once more and appends whether that succeeds, `ok` or `failed`.
 fn try_hearing(
     alloc: Global,
     peer: &mut TcpPeer<&HostRuntime>,
@@ -174,11 +182,12 @@ fn try_hearing(
 ) -> Result<(), Oom> {
     let mut buffer = [0; 3];
     add(answer, "")?;
-    add_bytes(answer, hear_all(alloc, peer, 6)?.as_slice())?;
+    add_bytes(answer, read_peer_bytes(alloc, peer, 6)?.as_slice())?;
     add(answer, said(peer.read_some(&mut buffer).is_ok()))
 }
 
-/// Writes a question on a peer, has the door answer it, and appends what each side read.
+/// Writes `ask` on a peer, the client's side of a link, has the door answer it, and appends what
+/// each side read. It appends `not accepted` if no link came to the door.
 fn try_peer(
     alloc: Global,
     door: &mut TcpDoor<&HostRuntime>,
@@ -195,7 +204,8 @@ fn try_peer(
     try_hearing(alloc, peer, answer)
 }
 
-/// Appends what a link between a dialer at this number and the door carried.
+/// Dials a link to the door at TCP port `number` of this machine, and appends what each side read,
+/// or `not dialled`.
 fn try_link(
     rt: &HostRuntime,
     number: u16,
@@ -214,8 +224,8 @@ fn try_link(
     Ok(())
 }
 
-/// Appends what a link over the one door of a port at this number carried, and returns whether the
-/// number was free.
+/// Listens at TCP port `number` with one door, dials a link to it, and appends what each side read.
+/// It returns `false`, and appends nothing, if it cannot listen there.
 fn try_number(
     rt: &HostRuntime,
     port: &mut TcpPort<&HostRuntime>,
@@ -231,8 +241,8 @@ fn try_number(
     Ok(true)
 }
 
-/// Returns what a link between a dialer and a door of this machine carried, at the first of 100
-/// numbers that is free.
+/// Returns what each side of a link between a dialer and a door of this machine read, at the first
+/// of the TCP ports 48600 to 48699 that is free, or `no port` if none is.
 ///
 /// # Errors
 ///

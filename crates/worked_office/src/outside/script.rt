@@ -18,7 +18,11 @@ pub struct Script<'a> {
     pub rt: &'a HostRuntime,
 }
 
-/// Returns what is printed for a form that is made with bytes and faults.
+/// Returns what is printed for a line whose form is `source`, `sure_source`, `sink`, `sure_sink`,
+/// `disk`, `sure_disk`, `link`, `peer`, `journal`, `opened`, `long` or `std`, without a line end;
+/// `unread` for another form, or if a word of `words` cannot be read. `words` give the bytes with
+/// which the thing is made, and after them its faults, as `failing=2,3`. `calls` are the calls that
+/// are made of it.
 fn told_row(alloc: Global, form: &str, words: &str, calls: &str) -> Result<String, Oom> {
     let Some(told) = told_by(alloc, words)? else {
         return unread(alloc);
@@ -40,7 +44,10 @@ fn told_row(alloc: Global, form: &str, words: &str, calls: &str) -> Result<Strin
     }
 }
 
-/// Returns what is printed for a line, without a line end.
+/// Returns what is printed for a line `FORM WORDS : CALLS`, without a line end, or `unread` if it
+/// cannot be read. FORM names what is made, as `clock`, `port`, `dialer`, `broken`, `file`,
+/// `system_clock`, `network` or `disk`; WORDS say with what, and CALLS are the calls of it. Both
+/// are empty if the line does not have them.
 fn row(rt: &HostRuntime, line: &str) -> Result<String, Oom> {
     let alloc = rt.alloc();
     let (made, calls) = line.split_once(" :").unwrap_or((line, ""));
@@ -58,7 +65,8 @@ fn row(rt: &HostRuntime, line: &str) -> Result<String, Oom> {
 }
 
 impl<'a> Work for Script<'a> {
-    /// Returns what is printed for a line. For a remark and an empty line it is empty.
+    /// Returns what is printed for a line, with its line end; an empty text for a remark, which
+    /// begins with `#`, and for an empty line.
     fn work(&mut self, alloc: Global, line: &str) -> Result<String, Oom> {
         if line.is_empty() || line.starts_with('#') {
             return Ok(String::new(alloc));

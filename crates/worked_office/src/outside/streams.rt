@@ -8,8 +8,8 @@ use desk_traits::{Clock, SetClock};
 use hazard_types::{List, Oom};
 use std::alloc::Global;
 
-/// Reads into a buffer of `room` bytes, and appends the number of bytes read and the bytes, or
-/// `failed`.
+/// Reads once from a source and appends the number of bytes and the bytes, or `failed`. `room` is
+/// the size of the buffer, a decimal word; `unread` is appended if it is no number below 65,536.
 ///
 /// # Errors
 ///
@@ -33,7 +33,8 @@ pub fn read_once<S: Source>(
     }
 }
 
-/// Writes all bytes of a word, and appends `ok` or `failed`.
+/// Writes the bytes that a word gives to a sink, and appends `ok` or `failed`. It appends `unread`
+/// if the word does not give bytes.
 ///
 /// # Errors
 ///
@@ -53,7 +54,9 @@ pub fn write_word<K: Sink>(
     }
 }
 
-/// Returns what each read of a source returned.
+/// Returns what is printed for reads of a source, one for each word of `calls`, which is the size
+/// of its buffer in bytes: the number of bytes and the bytes, `failed`, or `unread` if the word is
+/// no number below 65,536.
 fn read_all<S: Source>(alloc: Global, mut source: S, calls: &str) -> Result<String, Oom>
 where
     S: Drop,
@@ -65,7 +68,10 @@ where
     Ok(answer)
 }
 
-/// Returns what each read of a source in memory returned.
+/// Returns what is printed for reads of a source in memory, for each the number of bytes and the
+/// bytes, `failed`, or `unread` if the word is no number below 65,536. `told` gives the bytes of
+/// the source, the most bytes that a read returns and the reads that fail. Each word of `calls` is
+/// a read, and gives the size of its buffer in bytes.
 ///
 /// # Errors
 ///
@@ -76,7 +82,8 @@ pub fn source_row(alloc: Global, told: &Told, calls: &str) -> Result<String, Oom
     read_all(alloc, source, calls)
 }
 
-/// Returns what each read of a source that never fails returned.
+/// Returns what is printed for reads of a source of the bytes of `told` that never fails. Each word
+/// of `calls` is a read, and gives the size of its buffer in bytes.
 ///
 /// # Errors
 ///
@@ -86,7 +93,8 @@ pub fn sure_source_row(alloc: Global, told: &Told, calls: &str) -> Result<String
     read_all(alloc, source, calls)
 }
 
-/// Returns what each write to a sink returned, of one word each.
+/// Returns what is printed for writes to a sink, one for each word of `calls`, which gives the
+/// bytes to write: `ok`, `failed`, or `unread` if the word gives no bytes.
 fn write_words<K: Sink>(alloc: Global, sink: &mut K, calls: &str) -> Result<String, Oom> {
     let mut answer = String::new(alloc);
     for word in calls.split_whitespace() {
@@ -95,12 +103,14 @@ fn write_words<K: Sink>(alloc: Global, sink: &mut K, calls: &str) -> Result<Stri
     Ok(answer)
 }
 
-/// Returns a sink with these faults.
+/// Returns a sink in memory whose calls with the numbers `told.failing` fail.
 fn sink_of(alloc: Global, told: &Told) -> Result<MemSink, Oom> {
     MemSink::new(alloc, &told.failing)
 }
 
-/// Returns what each write to a sink in memory returned, and the bytes that it took.
+/// Returns what each write to a sink in memory returned, and the bytes that the sink took. Each
+/// word of `calls` is a write, and gives its bytes; `told` gives the numbers of the calls that
+/// fail.
 ///
 /// # Errors
 ///
@@ -112,7 +122,8 @@ pub fn sink_row(alloc: Global, told: &Told, calls: &str) -> Result<String, Oom> 
     Ok(answer)
 }
 
-/// Returns what each write to a sink that never fails returned.
+/// Returns what is printed for writes to a sink that never fails, one for each word of `calls`,
+/// which gives its bytes.
 ///
 /// # Errors
 ///
@@ -121,7 +132,8 @@ pub fn sure_sink_row(alloc: Global, calls: &str) -> Result<String, Oom> {
     write_words(alloc, &mut SureSink, calls)
 }
 
-/// Returns the readings of words with commas between them. A word that is not a number is left out.
+/// Returns the readings that decimal words with commas between them give, in minutes since
+/// 2000-01-01T00:00Z UTC. A word that is no number is left out.
 fn readings_of(alloc: Global, words: &str) -> Result<List<i64>, Oom> {
     let mut readings = List::new(alloc);
     for word in words.split(',') {
@@ -132,7 +144,8 @@ fn readings_of(alloc: Global, words: &str) -> Result<List<i64>, Oom> {
     Ok(readings)
 }
 
-/// Returns the reading that a call of a clock returned.
+/// Returns the reading, in decimal, of a call `tick` or `minute` of a clock, or `unread` for
+/// another word.
 fn clock_call<C: Clock>(alloc: Global, clock: &mut C, call: &str) -> Result<String, Oom> {
     let reading = match call {
         "tick" => clock.tick(),
@@ -142,7 +155,9 @@ fn clock_call<C: Clock>(alloc: Global, clock: &mut C, call: &str) -> Result<Stri
     Ok(format!(in alloc; "{reading}")?)
 }
 
-/// Returns the readings that the calls of a clock returned.
+/// Returns what is printed for the calls of a clock, the words `tick` and `minute`: the reading of
+/// each in decimal, in minutes since 2000-01-01T00:00Z UTC, or `unread` for another word, with a
+/// comma and a blank between them.
 fn clock_calls<C: Clock>(alloc: Global, clock: &mut C, calls: &str) -> Result<String, Oom> {
     let mut answer = String::new(alloc);
     for call in calls.split_whitespace() {
@@ -152,15 +167,17 @@ fn clock_calls<C: Clock>(alloc: Global, clock: &mut C, calls: &str) -> Result<St
     Ok(answer)
 }
 
-/// Returns a clock with these readings.
+/// Returns a clock with these readings, in minutes since 2000-01-01T00:00Z UTC.
 fn clock_of(readings: &List<i64>) -> Result<SetClock, Oom>
     requires { 0 < length readings.now }
 {
     SetClock::new(readings)
 }
 
-/// Returns the readings that the calls of a clock with these readings returned; empty if there are
-/// no readings.
+/// Returns the readings, in decimal, of the calls of a clock, the words `tick` and `minute`, with
+/// `unread` for another word. `words` are the readings that the clock gives, in minutes since
+/// 2000-01-01T00:00Z UTC, with commas between them; a word that is no number is left out, and
+/// without any number the result is empty.
 ///
 /// # Errors
 ///

@@ -21,8 +21,11 @@ pub struct Told {
     pub ghost positive: { 1 ≤ piece },
 }
 
-/// Sets the value of a word `failing=NUMBERS`, `stop=NUMBER`, `pick=NUMBER` or `piece=NUMBER`, and
-/// returns whether the word is one.
+/// Sets in `told` what a word gives, and returns `true`: `failing=NUMBERS` the numbers of the calls
+/// that fail, with commas between them or `-` for none, `stop=NUMBER` the number of the last call
+/// that may succeed, `pick=NUMBER` what a crash leaves of a disk's writes, and `piece=NUMBER` the
+/// most bytes that a read returns, from 1 on. For any other word, or if a number is not below 2^64,
+/// it changes nothing and returns `false`.
 fn take_word(alloc: Global, told: &mut Told, word: &str) -> Result<bool, Oom> {
     let Some((key, value)) = word.split_once('=') else {
         return Ok(false);
@@ -48,8 +51,11 @@ fn take_word(alloc: Global, told: &mut Told, word: &str) -> Result<bool, Oom> {
     Ok(true)
 }
 
-/// Returns the bytes of the first word and the faults of the others, or `None` if a word cannot be
-/// read.
+/// Returns the bytes that the first word gives and the faults that the other words give, or `None`
+/// if a word cannot be read. The other words are `failing=NUMBERS`, the calls that fail,
+/// `stop=NUMBER`, the last call that may succeed, `pick=NUMBER`, what a crash leaves of a disk's
+/// writes, and `piece=NUMBER`, the most bytes that a read returns. Without them no call fails, a
+/// crash leaves no unsynced write, and a read returns at most 65,536 bytes.
 ///
 /// # Errors
 ///

@@ -4,7 +4,7 @@ ghost use Rattle.std.specs.Prelude.{◌<◌, IfSome};
 use hazard_types::{List, Oom, Text};
 use std::alloc::Global;
 
-/// Returns the value of a hex digit, `0` to `9` or `a` to `f`, or `None`.
+/// Returns the value of a hex digit, `0` to `9` or `a` to `f`, or `None` for another byte.
 fn digit_of(byte: u8) -> Option<u8>
     ensures { IfSome result (λ digit. digit < 16) }
 {
@@ -17,8 +17,8 @@ fn digit_of(byte: u8) -> Option<u8>
     }
 }
 
-/// Appends the byte of two hex digits, and the bytes after them, and returns whether the piece
-/// begins with two digits.
+/// Appends the byte that the first two hex digits of `piece` give, and the rest of `piece` as it
+/// is, and returns `true`. Without two digits it appends nothing and returns `false`.
 fn add_escaped(bytes: &mut Text, piece: &[u8]) -> Result<bool, Oom> {
     if piece.len() < 2 {
         return Ok(false);
@@ -31,8 +31,8 @@ fn add_escaped(bytes: &mut Text, piece: &[u8]) -> Result<bool, Oom> {
     Ok(true)
 }
 
-/// Returns the bytes of a word, in which `\` and two hex digits are one byte and the word `_` is no
-/// byte. `None` if a `\` has no two digits.
+/// Returns the bytes that a word gives, in which `\` and two hex digits are one byte and the word
+/// `_` is no byte. It is `None` if a `\` has no two digits after it.
 ///
 /// # Errors
 ///
@@ -54,7 +54,7 @@ pub fn bytes_of(alloc: Global, word: &str) -> Result<Option<Text>, Oom> {
     Ok(Some(bytes))
 }
 
-/// Returns the hex digit of a value.
+/// Returns the hex digit, `0` to `9` or `a` to `f`, of a value below 16.
 fn digit(value: u8) -> char
     requires { value < 16 }
 {
@@ -65,7 +65,8 @@ fn digit(value: u8) -> char
     }
 }
 
-/// Appends bytes as `bytes_of` reads them.
+/// Appends bytes as a word of the form that `bytes_of` reads: `_` for no byte, and `\` and two hex
+/// digits for each byte that is not `!` to `~` or is `\`.
 ///
 /// # Errors
 ///
@@ -86,7 +87,7 @@ pub fn add_bytes(answer: &mut String, bytes: &[u8]) -> Result<(), Oom> {
     Ok(())
 }
 
-/// Appends words, after a comma unless they are the first.
+/// Appends words to the answer, after a comma and a blank unless the answer is empty.
 ///
 /// # Errors
 ///
@@ -99,7 +100,8 @@ pub fn add(answer: &mut String, words: &str) -> Result<(), Oom> {
     Ok(())
 }
 
-/// Appends a part of a line: its name and its bytes.
+/// Appends `; `, the name of a part, a blank and its bytes as a word of the form that `bytes_of`
+/// reads.
 ///
 /// # Errors
 ///
@@ -111,7 +113,7 @@ pub fn add_part(answer: &mut String, name: &str, bytes: &[u8]) -> Result<(), Oom
     add_bytes(answer, bytes)
 }
 
-/// Returns what is printed for a line that the script cannot read.
+/// Returns `unread`, which is printed for a line that the script cannot read.
 ///
 /// # Errors
 ///
@@ -120,8 +122,8 @@ pub fn unread(alloc: Global) -> Result<String, Oom> {
     Ok(String::from_str(alloc, "unread")?)
 }
 
-/// Returns the numbers of words with commas between them, or an empty list for `-`. `None` if a
-/// word is not a number.
+/// Returns the numbers that decimal words with commas between them give, or an empty list for `-`.
+/// It is `None` if a word is no number below 2^64.
 ///
 /// # Errors
 ///

@@ -31,7 +31,8 @@ impl Model for Taking {
 }
 
 impl Taking {
-    /// Returns a reader that has taken no product.
+    /// Returns a reader of the office and P-VTEC product class of `asked`, with all counts at 0 and
+    /// no product taken.
     fn new(alloc: Global, asked: &Asked) -> Self
         ensures { result.products ≡ [] }
     {
@@ -43,8 +44,9 @@ impl Taking {
         }
     }
 
-    /// Takes a product, and tries once more if memory runs out. After 4,294,967,295 products it
-    /// does nothing.
+    /// Has the reader take a product, and tries once more if memory runs out; a success at the
+    /// second try is counted in `again`. Errs if memory runs out both times. After 4,294,967,295
+    /// products it does nothing.
     fn take(&mut self, alloc: Global, product: &Decoded) -> Result<(), Oom> {
         let Some(taken) = self.taken.checked_add(1) else {
             return Ok(());
@@ -60,7 +62,8 @@ impl Taking {
         Ok(())
     }
 
-    /// Reads a text and takes its product, or counts its fault.
+    /// Decodes the text of a product and has the reader take it, or adds 1 to `faults` if the text
+    /// has a fault. Errs only if memory runs out.
     fn read(&mut self, alloc: Global, text: &[u8]) -> Result<(), Oom> {
         match decode(alloc, text) {
             Ok(product) => self.take(alloc, &product),
@@ -72,8 +75,10 @@ impl Taking {
         }
     }
 
-    /// Returns in words the counts, and how many lives, breaches, gaps and live rows the reader
-    /// has.
+    /// Returns the line `products N, faults N, lives N, breaches N, gaps N, shown N`: how many
+    /// products the reader took, how many texts had a fault, how many lives, breaches and gaps the
+    /// products taken have, and how many rows they leave live at `minute`. A second line, `taken
+    /// again N`, follows if N products, at least one, were taken only at the second try.
     fn told(&self, alloc: Global, minute: Minute) -> Result<String, Oom> {
         let lives = self.reader.lives(alloc)?.len();
         let breaches = self.reader.breaches(alloc)?.len();
@@ -91,8 +96,11 @@ impl Taking {
     }
 }
 
-/// Returns in words what a reader has found in an archive that comes in pieces of at most `piece`
-/// bytes.
+/// Returns the line `products N, faults N, lives N, breaches N, gaps N, shown N` of what a reader
+/// finds in the archive `input`, split into pieces of `piece` bytes (1 for 0). `asked` has the
+/// office and class of the reader, and the minute for `shown`, the count of the rows that are live
+/// then. A second line, `taken again N`, follows if N products, at least one, were taken only at a
+/// second try, after memory had run out at the first.
 ///
 /// # Errors
 ///

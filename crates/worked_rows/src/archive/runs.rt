@@ -24,8 +24,8 @@ pub struct Run {
 }
 
 impl Run {
-    /// Returns a line with the exit status, and the number of lines, the number of bytes and the
-    /// SHA-256 of the text.
+    /// Returns a line with the exit status of the run, and of the text that it wrote the number of
+    /// lines, the number of bytes and the SHA-256 in hex.
     ///
     /// # Errors
     ///
@@ -44,7 +44,9 @@ impl Run {
     }
 }
 
-/// Runs the report or the statistics of an archive, with these words as arguments.
+/// Runs the report or the statistics, as `telling` says, over the archive `input` with `words` as
+/// arguments, and returns the exit status and what was written. `given` has the size of the pieces
+/// in bytes, the limit, and which reads and writes fail.
 ///
 /// # Errors
 ///
@@ -67,15 +69,15 @@ pub fn run_telling(
     Ok(Run { status, text })
 }
 
-/// Runs the report of an archive that comes in pieces of at most `piece` bytes, where no call
-/// fails.
+/// Runs the report over the archive `input`, read in pieces of at most `piece` bytes, with `words`
+/// as arguments, and returns the exit status and what was written. No read or write fails.
 fn whole_report(alloc: Global, words: &List<Text>, input: &[u8], piece: usize) -> Result<Run, Oom> {
     let mut given = Given::new(alloc, LIMIT);
     given.piece = piece;
     run_telling(alloc, Telling::Report, words, input, &given)
 }
 
-/// Whether two runs ended alike and wrote the same text.
+/// Whether two runs have the same exit status and wrote the same text.
 fn is_same(one: &Run, other: &Run) -> bool {
     one.status == other.status && one.text == other.text
 }
@@ -88,8 +90,9 @@ pub struct Tally {
     pub differ: usize,
 }
 
-/// Runs the report of each beginning of an archive, in pieces of 1, 7 and 1000 bytes. A report
-/// fails if its exit status is not 0 or 3.
+/// Returns how many beginnings of `input` were tried, from 0 bytes to all, and for how many of them
+/// the report fails or depends on the size of the pieces. The report of each, with `words` as
+/// arguments, is run in pieces of 1, 7 and 1000 bytes; it fails if an exit status is not 0 or 3.
 ///
 /// # Errors
 ///

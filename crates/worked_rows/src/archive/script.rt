@@ -19,6 +19,7 @@ pub struct Script {
 }
 
 impl Script {
+    /// Returns a script with an empty archive, in which no fault is set for the next run.
     pub fn new(alloc: Global) -> Self {
         Script {
             input: List::new(alloc),
@@ -26,14 +27,15 @@ impl Script {
         }
     }
 
-    /// Appends the archive to itself.
+    /// Appends a copy of the whole archive to the archive.
     fn double(&mut self) -> Result<(), Oom> {
         let again = self.input.clone()?;
         self.input.extend(again.as_slice())
     }
 
-    /// Appends a line for each number from 1 to `most`, with its four digits in place of `####`. A
-    /// text without `####` is appended once.
+    /// Appends to the archive a line for each number from 1 to `most`: `text` with the number, in
+    /// at least four digits, in place of its first `####`. A text without `####` is appended once.
+    /// Each line ends with CR, CR and LF.
     fn add_numbered(&mut self, alloc: Global, most: u16, text: &str) -> Result<(), Oom> {
         let Some((front, rest)) = text.split_once("####") else {
             return add_line(&mut self.input, text, LINE_END);
@@ -46,7 +48,8 @@ impl Script {
         Ok(())
     }
 
-    /// Appends the lines between bars.
+    /// Appends to the archive a line for each part of `texts` between `|`, each with CR, CR and LF
+    /// at its end.
     fn add_lines(&mut self, texts: &str) -> Result<(), Oom> {
         for text in texts.split('|') {
             add_line(&mut self.input, text, LINE_END)?;
@@ -54,7 +57,9 @@ impl Script {
         Ok(())
     }
 
-    /// Runs the report or the statistics, and forgets what was set for the run.
+    /// Runs the report or the statistics over the archive, with the words of `line` as arguments,
+    /// and returns the exit status and what was written. The sizes and faults set for the run are
+    /// then reset.
     fn run(&mut self, alloc: Global, telling: Telling, line: &str) -> Result<Run, Oom> {
         let words = words_of(alloc, line)?;
         let run = run_telling(alloc, telling, &words, self.input.as_slice(), &self.given)?;
@@ -62,13 +67,18 @@ impl Script {
         Ok(run)
     }
 
-    /// Returns the text of the report or the statistics, and a line with the exit status.
+    /// Runs the report or the statistics over the archive, with the words of `line` as arguments,
+    /// and returns the text written and then a line with the exit status. The sizes and faults set
+    /// for the run are then reset.
     fn telling_step(&mut self, alloc: Global, telling: Telling, line: &str) -> Result<String, Oom> {
         let run = self.run(alloc, telling, line)?;
         with_status(alloc, run.text.as_slice(), run.status)
     }
 
-    /// Returns what a reader has found in the archive, in pieces of at most `size` bytes.
+    /// Returns a line of counts of what a reader finds in the archive, split into pieces of `size`
+    /// bytes. `line` has the words `OFFICE CLASS STAMP`: the office and P-VTEC class of the reader,
+    /// and the minute at which live rows are counted. The result is `unread: reader LINE` if it has
+    /// not.
     fn reader_step(&self, alloc: Global, size: usize, line: &str) -> Result<String, Oom> {
         let words = words_of(alloc, line)?;
         match asked_of(&words) {
@@ -77,7 +87,9 @@ impl Script {
         }
     }
 
-    /// Returns the tally of the reports of each beginning of the archive.
+    /// Returns the line `N cuts, M differ`: of the N beginnings of the archive, from 0 bytes to
+    /// all, the report fails or depends on the size of the pieces for M. `line` has the arguments
+    /// of the report, `OFFICE CLASS STAMP`.
     fn cuts_step(&self, alloc: Global, line: &str) -> Result<String, Oom> {
         let words = words_of(alloc, line)?;
         let tally = try_cuts(alloc, &words, self.input.as_slice())?;
@@ -86,7 +98,8 @@ impl Script {
         Ok(format!(in alloc; "{cuts} cuts, {differ} differ\n")?)
     }
 
-    /// Does a step that prints nothing; a step that prints does nothing here.
+    /// Does a step that changes the archive or sets something for the next run. Any other step,
+    /// which would print something, does nothing here.
     fn prepare(&mut self, alloc: Global, step: &Step<'_>) -> Result<(), Oom> {
         match step {
             Step::Line(text) => add_line(&mut self.input, text, LINE_END)?,
@@ -107,7 +120,8 @@ impl Script {
 }
 
 impl Work for Script {
-    /// Returns what is printed for a line.
+    /// Does the step of a line, and returns what is printed for it: an empty text for a remark and
+    /// a step that prints nothing, `unread: LINE` for a line that is no step.
     fn work(&mut self, alloc: Global, line: &str) -> Result<String, Oom> {
         if is_remark(line) {
             return Ok(String::new(alloc));

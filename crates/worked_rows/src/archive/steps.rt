@@ -30,7 +30,8 @@ pub enum Step<'a> {
     Cuts(&'a str),
 }
 
-/// Returns the step that is this whole line, or `None`.
+/// Returns the step of a line `line`, `no text`, `again`, `report` or `stats`, or `None` for any
+/// other line.
 fn bare_step(line: &str) -> Option<Step<'_>> {
     match line {
         "line" => Some(Step::Line("")),
@@ -42,28 +43,36 @@ fn bare_step(line: &str) -> Option<Step<'_>> {
     }
 }
 
-/// Returns the step that sets something by a word with a number, or `None`.
+/// Returns the step that sets the number `rest` for the next run, as what `word` names: the most
+/// bytes of a read (`piece`) or of the input (`limit`), or the number of one more read or write
+/// that fails (`read`, `write`). It is `None` for another word, or if `rest` is no decimal number
+/// below 2^32.
 fn setting_step<'a>(word: &str, rest: &str) -> Option<Step<'a>> {
     let number = rest.parse::<u32>().ok()?;
     let setting = setting_of(word, number)?;
     Some(Step::Set(setting))
 }
 
-/// Returns the step of the words `NUMBER LINE`, or `None` if they are not such words.
+/// Returns the `numbered` step of `rest`, which is `NUMBER LINE`, or `None` if it has another form.
+/// NUMBER is a decimal number below 65,536, the last of the numbers that are put into LINE.
 fn numbered_lines(rest: &str) -> Option<Step<'_>> {
     let (most, line) = rest.split_once(' ')?;
     let most = most.parse::<u16>().ok()?;
     Some(Step::Numbered(most, line))
 }
 
-/// Returns the step of the words `SIZE WORDS`, or `None` if they are not such words.
+/// Returns the `reader` step of `rest`, which is `SIZE WORDS`, or `None` if it has another form.
+/// SIZE is a decimal number below 2^32, the size of the pieces in bytes.
 fn reader_step(rest: &str) -> Option<Step<'_>> {
     let (size, words) = rest.split_once(' ')?;
     let size = size.parse::<u32>().ok()?;
     Some(Step::Reader(size as usize, words))
 }
 
-/// Returns the step of a first word with what comes after it, or `None`.
+/// Returns the step of a line that is a name, a blank and an argument, as `lines TEXT|TEXT`. The
+/// names are `line`, `lines`, `unended`, `numbered`, `report`, `short`, `reader`, `stats`, `cuts`,
+/// and `piece`, `limit`, `read` and `write`, which set a number for the next run. It is `None` if
+/// the line has no blank, the name is none of these, or the argument has the wrong form.
 fn worded_step(line: &str) -> Option<Step<'_>> {
     let (word, rest) = line.split_once(' ')?;
     match word {
@@ -80,7 +89,10 @@ fn worded_step(line: &str) -> Option<Step<'_>> {
     }
 }
 
-/// Returns the step of a line, or `None` if the line is no step.
+/// Returns the step that a line is: `no text` or `again`; `line`, `report` or `stats`, alone or
+/// with a blank and an argument; or `lines`, `unended`, `numbered`, `short`, `reader`, `cuts`,
+/// `piece`, `limit`, `read` or `write` with a blank and an argument. `None` if the line is none of
+/// these or its argument has the wrong form.
 pub fn step_of(line: &str) -> Option<Step<'_>> {
     match bare_step(line) {
         Some(step) => Some(step),

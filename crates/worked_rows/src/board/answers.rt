@@ -1,7 +1,6 @@
 //! What is printed of plans, refusals, rows and events.
-ghost use Rattle.std.specs.Prelude.{◌≡◌, ◌≤◌, IsTrue};
+ghost use Rattle.std.specs.Prelude.{◌≤◌, IsTrue};
 ghost use Rattle.std.specs.List.{AllByRecursion};
-ghost use Rattle.hazard_types.specs.Days.{day_stamp_of};
 ghost use Rattle.hazard_types.specs.Digits.{is_day_stamp};
 ghost use Rattle.hazard_types.specs.declared.line.SegLine.{SegLine as SaidLine};
 ghost use Rattle.worked_rows.specs.Written.{CanBeWritten};
@@ -21,7 +20,7 @@ use worked_lines::text_of;
 /// The office of the days.
 const OFFICE: [u8; 4] = *b"KLWX";
 
-/// Returns the day stamp of a minute.
+/// Returns the day of the month, hour and minute, in UTC, of a minute.
 #[tactic(auto, using(crate::proofs::Expiries::is_day))]
 fn expiry_stamp(minute: Minute) -> DayStamp
     ensures { IsTrue (is_day_stamp result) }
@@ -34,7 +33,8 @@ fn expiry_stamp(minute: Minute) -> DayStamp
     }
 }
 
-/// Appends the P-VTEC string of a line, and a line with the site of its flood values, if any.
+/// Appends the P-VTEC string of a line, of class O and office KLWX, and LF. If the line has flood
+/// values, `site` and the code of their location follow on a line.
 fn push_line(out: &mut String, line: &SegLine) -> Result<(), AllocError>
     requires { line.now.event.etn ≤ 9999 }
 {
@@ -60,7 +60,8 @@ fn push_line(out: &mut String, line: &SegLine) -> Result<(), AllocError>
     Ok(())
 }
 
-/// Appends the P-VTEC strings of lines.
+/// Appends for each line its P-VTEC string on a line, and a line `site CODE` if it has flood
+/// values, in the order of `lines`.
 fn push_lines(out: &mut String, lines: &[SegLine]) -> Result<(), AllocError>
     requires { AllByRecursion (λ (line : SaidLine). line.event.etn ≤ 9999) lines.now }
 {
@@ -70,7 +71,9 @@ fn push_lines(out: &mut String, lines: &[SegLine]) -> Result<(), AllocError>
     Ok(())
 }
 
-/// Appends a segment's UGC string, its P-VTEC strings and `$$`.
+/// Appends the lines of a segment: its UGC string, its P-VTEC strings, with a line `site CODE`
+/// after each that has flood values, and `$$`. `t` is the minute of the product, from which the
+/// expiry in the UGC string is found.
 fn push_segment(alloc: Global, out: &mut String, t: Minute, segment: &Segment) -> Result<(), Oom>
     requires written { CanBeWritten segment.now }
     requires soon { t ≤ 52000000 }
@@ -84,7 +87,8 @@ fn push_segment(alloc: Global, out: &mut String, t: Minute, segment: &Segment) -
     Ok(())
 }
 
-/// Appends segments.
+/// Appends the lines of each segment, in order, as `push_segment` writes them: UGC string, P-VTEC
+/// strings and `$$`. `t` is the minute of the product.
 fn push_segments(
     alloc: Global,
     out: &mut String,
@@ -100,8 +104,9 @@ fn push_segments(
     Ok(())
 }
 
-/// Returns the codes of a plan, as its product has them: the letters of a correction, and the
-/// segments.
+/// Returns the codes of the product of a plan, on lines: `CC` and the letter if it is a correction,
+/// and for each segment its UGC string, its P-VTEC strings and `$$`. A line `site CODE` follows a
+/// P-VTEC string with flood values. `t` is the minute of the product.
 ///
 /// # Errors
 ///
@@ -128,8 +133,8 @@ fn event_text(alloc: Global, event: &Event) -> Result<String, AllocError> {
     format!(in alloc; "{hazard}.{etn:04}.{year}")
 }
 
-/// Returns a line for each event that a plan opens, and one for each event with texts, of which it
-/// has `what`.
+/// Returns a line `opened EVENT` for each event that a plan opens, and then a line `texts EVENT
+/// "WHAT"` for each event for which the plan has texts. WHAT is the text `what` of the event.
 ///
 /// # Errors
 ///
@@ -148,12 +153,14 @@ pub fn told_text(alloc: Global, plan: &Plan) -> Result<String, AllocError> {
     Ok(out)
 }
 
-/// Returns the line of a refusal without values.
+/// Returns a refusal without values as a line of JSON: `number`, as `L1`, is its code and `rule`
+/// its name.
 fn bare(alloc: Global, number: &str, rule: &str) -> Result<String, AllocError> {
     format!(in alloc; "{{\"no\":\"{number}\",\"rule\":\"{rule}\"}}\n")
 }
 
-/// Returns the line of a refusal with an event and a zone.
+/// Returns a refusal with an event and a zone as a line of JSON: `number`, as `L3`, is its code and
+/// `rule` its name.
 fn in_zone(
     alloc: Global,
     number: &str,
@@ -169,18 +176,20 @@ fn in_zone(
     )
 }
 
-/// Returns the line of a refusal with an event.
+/// Returns a refusal with an event as a line of JSON: `number`, as `L2`, is its code and `rule` its
+/// name.
 fn of_event(alloc: Global, number: &str, rule: &str, event: &Event) -> Result<String, AllocError> {
     let event = event_text(alloc, event)?;
     format!(in alloc; "{{\"event\":\"{event}\",\"no\":\"{number}\",\"rule\":\"{rule}\"}}\n")
 }
 
-/// Returns the line of a refusal with the place of an intent.
+/// Returns a refusal with the place of an intent as a line of JSON: `number`, as `L6`, is its code
+/// and `rule` its name. `place` is the index of the intent in its draft, from 0.
 fn at_place(alloc: Global, number: &str, rule: &str, place: u32) -> Result<String, AllocError> {
     format!(in alloc; "{{\"no\":\"{number}\",\"place\":{place},\"rule\":\"{rule}\"}}\n")
 }
 
-/// Returns the line of a refusal with two events that conflict in a zone.
+/// Returns the refusal L12, `Conflict`, of two events that conflict in a zone as a line of JSON.
 fn conflict(
     alloc: Global,
     zone: &Zone,
@@ -196,15 +205,16 @@ fn conflict(
     )
 }
 
-/// Returns the line of a refusal with a hazard that has no event tracking number left.
+/// Returns the refusal L14, `NumbersSpent`, of a hazard that has no event tracking number left as a
+/// line of JSON.
 fn spent(alloc: Global, hazard: &Hazard) -> Result<String, AllocError> {
     let hazard = hazard_text(hazard);
     let hazard = text_of(&hazard);
     format!(in alloc; "{{\"hazard\":\"{hazard}\",\"no\":\"L14\",\"rule\":\"NumbersSpent\"}}\n")
 }
 
-/// Returns the line of a refusal of a draft or a correction. Any other refusal, which no plan has,
-/// is printed by its name in the code.
+/// Returns a refusal of a draft or a correction as a line of JSON with its code, `L1` to `L18`, its
+/// name and its values. Any other refusal, which no plan has, becomes a line with its debug form.
 ///
 /// # Errors
 ///
@@ -241,7 +251,8 @@ pub fn refusal_text(alloc: Global, refusal: &Refusal) -> Result<String, AllocErr
     }
 }
 
-/// Appends the line of a row.
+/// Appends the line of a row, `ZONE EVENT BEGIN-END`, where BEGIN and END are stamps such as
+/// `180103T1530Z`; END is `000000T0000Z` for until further notice.
 fn push_row(alloc: Global, out: &mut String, row: &Row) -> Result<(), AllocError> {
     let zone = zone_text(&row.zone);
     let zone = text_of(&zone);
@@ -253,7 +264,7 @@ fn push_row(alloc: Global, out: &mut String, row: &Row) -> Result<(), AllocError
     writeln!(out, "{zone} {event} {begin}-{end}")
 }
 
-/// Returns rows, one a line.
+/// Returns a line `ZONE EVENT BEGIN-END` for each row, in the order of `rows`.
 ///
 /// # Errors
 ///
@@ -266,7 +277,8 @@ pub fn board_text(alloc: Global, rows: &[Row]) -> Result<String, AllocError> {
     Ok(out)
 }
 
-/// Returns the line of the refusal of a draft with this clash, or that there is none.
+/// Returns the refusal `Conflict` for a clash, two events that conflict in a zone, as a line of
+/// JSON. It is the line `no clash` if `found` is `None`.
 ///
 /// # Errors
 ///
@@ -278,7 +290,8 @@ pub fn clash_text(alloc: Global, found: &Option<Clash>) -> Result<String, AllocE
     }
 }
 
-/// Appends the line of an event, with its latest end.
+/// Appends the line `EVENT END` of an event that has an unended row; END is the latest end of its
+/// unended rows.
 fn push_standing(alloc: Global, out: &mut String, standing: &Standing) -> Result<(), AllocError> {
     let event = event_text(alloc, &standing.event)?;
     let end = end_text(&standing.latest);
@@ -286,7 +299,8 @@ fn push_standing(alloc: Global, out: &mut String, standing: &Standing) -> Result
     writeln!(out, "{event} {end}")
 }
 
-/// Returns events that have an unended row, one a line.
+/// Returns a line `EVENT END` for each event that has an unended row, in the order of `standing`.
+/// END is the latest end of the event's unended rows.
 ///
 /// # Errors
 ///

@@ -52,7 +52,8 @@ impl Model for Day {
         × IsStrictlySortedBy by_key d.board.rows × AllByRecursion HasApart d.products };
 }
 
-/// Returns the number of the product after `before` others, at most 4,294,967,295.
+/// Returns the number of the product that comes after `before` others: `before + 1`, at most
+/// 4,294,967,295.
 fn number_behind(before: usize) -> u32
     ensures { result ≡ number_behind before }
 {
@@ -62,7 +63,9 @@ fn number_behind(before: usize) -> u32
     }
 }
 
-/// Returns the product of a plan, after `before` others. Its text is empty.
+/// Returns the product of a plan, sent at minute `t` after `before` other products, with an empty
+/// text. Its number is `before + 1`, and `original` is the number of the product that it corrects,
+/// or `None` if it is no correction.
 fn sent_of(
     alloc: Global,
     before: usize,
@@ -117,7 +120,9 @@ impl Day {
         self.products.len()
     }
 
-    /// Returns the plan of a draft, as sent at minute `t`.
+    /// Returns the plan that a draft has if it is sent at minute `t`; the day stays as it is. `t`
+    /// must not be before the last product nor above 52,000,000, and the draft must have at most 64
+    /// intents, each such as its category may hold (`may_hold`).
     ///
     /// # Errors
     ///
@@ -140,16 +145,15 @@ impl Day {
         Ok(plan)
     }
 
-    /// Sends a draft at minute `t` and returns its plan. The plan's lines change the rows, the
-    /// events that it opens draw their event tracking numbers, and its product comes after the
-    /// others.
+    /// Sends a draft at minute `t` and returns its plan, or errs with the first rule that the draft
+    /// breaks, or if memory runs out. The lines of the plan change the rows, each event that it
+    /// opens uses up its event tracking number, and its product comes after the others. `t` must
+    /// not be before the last product nor above 52,000,000, and the draft must have at most 64
+    /// intents, each such as its category may hold (`may_hold`).
     ///
     /// # Errors
     ///
     /// The day is then unchanged.
-    ///
-    /// - `No` with the first rule that the draft breaks.
-    /// - `OutOfMemory`.
     pub fn send(&mut self, alloc: Global, draft: &Draft, t: Minute) -> Result<Plan, Or<Refusal>>
         requires { MaySend draft.now.category draft.now.intents self.old.last t }
         ensures plan { IfOk result (λ plan. IsPlan draft.now.category self.old.rows t
@@ -172,8 +176,9 @@ impl Day {
         opened_events_are_drawn_in_order();
         plans_keep_what_stands();
         planned_lines_are_distinct();
+        lines_have_four_digits();
         rows_stay_in_order();
-        let plan = self.plan(alloc, draft, t)?;
+        let plan = plan(alloc, &self.board, &self.numbers, draft, t)?;
         self.board.reserve(openings(plan.lines.as_slice()))?;
         self.numbers.reserve(plan.opened.len())?;
         let sent = sent_of(alloc, self.products.len(), &plan, t, None)?;
@@ -184,16 +189,15 @@ impl Day {
         Ok(plan)
     }
 
-    /// Corrects the product at a 0-based place and returns the plan of the correction. The lines of
-    /// the product that are still live are written again, and the correction comes after the other
-    /// products.
+    /// Corrects the product at index `place`, from 0, with `texts` as the new texts by event, and
+    /// returns the plan of the correction, or errs with the first rule that it breaks, or if memory
+    /// runs out. The lines of the product that are still live are written again, and the correction
+    /// comes after the other products. There must be a product at `place`, and `t`, the minute of
+    /// the correction, must not be before the last product nor above 52,000,000.
     ///
     /// # Errors
     ///
     /// The day is then unchanged.
-    ///
-    /// - `No` with the first rule that the correction breaks.
-    /// - `OutOfMemory`.
     pub fn correct(
         &mut self,
         alloc: Global,
@@ -242,7 +246,7 @@ impl Day {
         Ok(correction)
     }
 
-    /// Returns the board with the rows of the products that were sent.
+    /// Returns the board of the day, which has the rows that the products sent so far have left.
     pub fn board(&self) -> &Board
         ensures { result.now.rows ≡ self.now.rows }
     {

@@ -32,7 +32,8 @@ pub struct Script {
     minute: Minute,
 }
 
-/// Returns a draft without intents.
+/// Returns a draft of a category, with number 1, of desk A, without intents, last touched at
+/// `minute`. It is never `None`, since `A` is the name of a desk.
 fn new_draft(alloc: Global, category: Category, minute: Minute) -> Option<Draft> {
     Some(Draft {
         id: 1,
@@ -43,20 +44,22 @@ fn new_draft(alloc: Global, category: Category, minute: Minute) -> Option<Draft>
     })
 }
 
-/// Returns a text.
+/// Returns a copy of `text`, as what is printed for a line.
 fn note(alloc: Global, text: &str) -> Result<String, Oom> {
     Ok(String::from_str(alloc, text)?)
 }
 
-/// Whether a draft may be sent at a minute: not before the last product, not after `LAST_MINUTE`,
-/// and of a form that may be planned.
+/// Whether a draft may be sent at minute `t`: `t` is not before the last product and at most
+/// 52,000,000, and the draft has at most 64 intents, each on a hazard that the desk issues in the
+/// draft's category and with 1 to 600 distinct zones of the kind that the hazard needs. Whether its
+/// plan would be refused is not tested.
 fn may_be_sent(day: &Day, draft: &Draft, t: Minute) -> bool
     ensures { IsTrue result ↔ MaySend draft.now.category draft.now.intents day.now.last t }
 {
     day.last().get() <= t.get() && t.get() <= LAST_MINUTE && may_be_planned(draft)
 }
 
-/// Returns the first rule that a draft or a correction breaks, as a line.
+/// Returns the refusal of a draft or a correction as a line of JSON, or errs if memory ran out.
 fn refused(alloc: Global, stop: Or<Refusal>) -> Result<String, Oom> {
     match stop {
         Or::No(refusal) => Ok(refusal_text(alloc, &refusal)?),
@@ -64,7 +67,10 @@ fn refused(alloc: Global, stop: Or<Refusal>) -> Result<String, Oom> {
     }
 }
 
-/// Returns the codes of the product that a draft would be.
+/// Returns the UGC and P-VTEC strings of the product that a draft would be if it were sent at
+/// minute `t`, or its refusal as a line of JSON. It returns `no draft of this form` on a line if
+/// `t` is before the last product or above 52,000,000, or if the draft has more than 64 intents or
+/// one that its category may not hold (`may_hold`).
 fn preview_text(alloc: Global, day: &Day, draft: &Draft, t: Minute) -> Result<String, Oom> {
     if !may_be_sent(day, draft, t) {
         return note(alloc, NO_FORM);
@@ -75,7 +81,10 @@ fn preview_text(alloc: Global, day: &Day, draft: &Draft, t: Minute) -> Result<St
     }
 }
 
-/// Returns the events that a draft would open, and its texts.
+/// Returns the lines `opened EVENT` and `texts EVENT "WHAT"` of the plan of a draft sent at minute
+/// `t`, or its refusal as a line of JSON. It returns `no draft of this form` on a line if `t` is
+/// before the last product or above 52,000,000, or if the draft has more than 64 intents or one
+/// that its category may not hold (`may_hold`).
 fn told(alloc: Global, day: &Day, draft: &Draft, t: Minute) -> Result<String, Oom> {
     if !may_be_sent(day, draft, t) {
         return note(alloc, NO_FORM);
@@ -86,7 +95,10 @@ fn told(alloc: Global, day: &Day, draft: &Draft, t: Minute) -> Result<String, Oo
     }
 }
 
-/// Corrects the product with a number, and returns the codes of the correction.
+/// Corrects product `number`, from 1, at minute `t` with `texts`, and returns the codes of the
+/// correction or its refusal as a line of JSON. It returns `no product` if there is no such
+/// product, and `no draft of this form` if `t` is before the last product or above 52,000,000, each
+/// on a line.
 fn corrected(
     alloc: Global,
     day: &mut Day,
@@ -107,7 +119,8 @@ fn corrected(
     }
 }
 
-/// Returns a put of a new event of a hazard in a zone, from now to `end`.
+/// Returns the intent to open an event of a hazard in one zone, from now to minute `end`, without
+/// flood values and texts.
 fn brief_put(alloc: Global, hazard: &Hazard, zone: Zone, end: Minute) -> Result<Intent, Oom> {
     Ok(Intent::Put(PutPart {
         target: Target::Fresh(*hazard),
@@ -119,8 +132,9 @@ fn brief_put(alloc: Global, hazard: &Hazard, zone: Zone, end: Minute) -> Result<
     }))
 }
 
-/// Returns a draft at minute `t` with `count` puts of a hazard, each for one minute in a zone of
-/// its own from MDZ001 on. `None` if the hazard is unknown or the time is out of range.
+/// Returns a draft for minute `t` with `count` puts of a hazard, each from now to the next minute
+/// in a zone of its own, MDZ001 and on. Puts with a number above 999, which no zone has, are left
+/// out. `None` if the desk does not issue the hazard, or if `t` is the last minute of 2099.
 fn brief_draft(
     alloc: Global,
     hazard: &Hazard,
@@ -144,8 +158,9 @@ fn brief_draft(
     Ok(Some(draft))
 }
 
-/// Opens `count` events of a hazard, in drafts an hour apart from minute `from` on, and returns how
-/// many were opened before the first draft that is not sent.
+/// Sends drafts of at most 64 puts, an hour apart from minute `from` on, until `count` events of a
+/// hazard are opened, each for one minute. Returns how many were opened before the first draft that
+/// may not be sent or is refused.
 fn fill(
     alloc: Global,
     day: &mut Day,
@@ -178,6 +193,8 @@ fn fill(
 }
 
 impl Script {
+    /// Returns a script of a day without rows, event tracking numbers and products, without a
+    /// draft, at minute 0.
     pub fn new(alloc: Global) -> Self {
         Script {
             day: Day::new(alloc),
@@ -186,7 +203,8 @@ impl Script {
         }
     }
 
-    /// Adds an intent to the draft.
+    /// Adds an intent to the end of the draft and returns an empty text, or returns `no draft` on a
+    /// line if there is none.
     fn add(&mut self, alloc: Global, intent: Intent) -> Result<String, Oom> {
         match &mut self.draft {
             Some(draft) => {
@@ -197,7 +215,9 @@ impl Script {
         }
     }
 
-    /// Sends the draft, and returns the codes of its product. A draft that is refused stays.
+    /// Sends the draft at its minute, and returns the codes of its product, or its refusal as a
+    /// line of JSON. It returns `no draft` if there is none, and `no draft of this form` if it may
+    /// not be sent then, each on a line. A draft that is not sent stays.
     fn send(&mut self, alloc: Global) -> Result<String, Oom> {
         let Some(draft) = self.draft.take() else {
             return note(alloc, NO_DRAFT);
@@ -216,7 +236,9 @@ impl Script {
         }
     }
 
-    /// Returns the events that the draft would open, and its texts.
+    /// Returns the lines `opened EVENT` and `texts EVENT "WHAT"` of the plan that the draft has at
+    /// its minute, or `no draft` on a line if there is none. A draft that cannot be sent gives its
+    /// refusal, or `no draft of this form`.
     fn tell(&self, alloc: Global) -> Result<String, Oom> {
         match &self.draft {
             Some(draft) => told(alloc, &self.day, draft, self.minute),
@@ -224,7 +246,9 @@ impl Script {
         }
     }
 
-    /// Returns the codes of the product that the draft would be.
+    /// Returns the codes of the product that the draft would be if it were sent at its minute, or
+    /// `no draft` on a line if there is none. A draft that cannot be sent gives its refusal, or `no
+    /// draft of this form`.
     fn preview(&self, alloc: Global) -> Result<String, Oom> {
         match &self.draft {
             Some(draft) => preview_text(alloc, &self.day, draft, self.minute),
@@ -232,39 +256,48 @@ impl Script {
         }
     }
 
-    /// Begins a draft, to be sent at a minute.
+    /// Begins a draft of a category without intents, to be sent at `minute`, in place of the one
+    /// before, and returns an empty text.
     fn begin(&mut self, alloc: Global, minute: Minute, category: Category) -> Result<String, Oom> {
         self.draft = new_draft(alloc, category, minute);
         self.minute = minute;
         note(alloc, "")
     }
 
-    /// Begins a day without a draft.
+    /// Begins a day without rows, event tracking numbers and products, drops the draft, and returns
+    /// an empty text.
     fn start(&mut self, alloc: Global) -> Result<String, Oom> {
         self.day = Day::new(alloc);
         self.draft = None;
         note(alloc, "")
     }
 
-    /// Returns the rows that are live at a minute.
+    /// Returns a line `ZONE EVENT BEGIN-END` for each row that is live at a minute, by zone, then
+    /// event.
     fn board(&self, alloc: Global, minute: Minute) -> Result<String, Oom> {
         let rows = self.day.board().shown(alloc, minute)?;
         Ok(board_text(alloc, rows.as_slice())?)
     }
 
-    /// Returns the rows of a zone that are live at a minute.
+    /// Returns a line `ZONE EVENT BEGIN-END` for each row of a zone that is live at a minute, by
+    /// event.
     fn zone(&self, alloc: Global, zone: Zone, minute: Minute) -> Result<String, Oom> {
         let rows = self.day.board().rows_of(alloc, zone, minute)?;
         Ok(board_text(alloc, rows.as_slice())?)
     }
 
-    /// Returns the least clash of the rows after lines.
+    /// Returns the first clash, by zone, then by its two events, among the rows as `lines` at
+    /// `minute` leave them, as a line of JSON, or `no clash` on a line if there is none. A clash is
+    /// two events of one hazard family that are live in a zone at `minute`, with periods that
+    /// overlap. The rows of the day stay as they are.
     fn clash(&self, alloc: Global, lines: &List<Line>, minute: Minute) -> Result<String, Oom> {
         let found = self.day.board().conflict(alloc, lines, minute)?;
         Ok(clash_text(alloc, &found)?)
     }
 
-    /// Opens `count` events of a hazard, and returns how many were opened, as a line.
+    /// Sends drafts of at most 64 puts, an hour apart from minute `from` on, until `count` events
+    /// of a hazard are opened. Returns the line `opened N` with how many were opened before the
+    /// first draft that is not sent.
     fn fill(
         &mut self,
         alloc: Global,
@@ -276,7 +309,8 @@ impl Script {
         Ok(format!(in alloc; "opened {done}\n")?)
     }
 
-    /// Does a step, and returns what is printed for it.
+    /// Does a step, and returns what is printed for it, which is empty for a step that prints
+    /// nothing.
     fn step(&mut self, alloc: Global, step: Step) -> Result<String, Oom> {
         match step {
             Step::Day => self.start(alloc),
@@ -298,7 +332,8 @@ impl Script {
 }
 
 impl Work for Script {
-    /// Returns what is printed for a line. A remark and an empty line are returned unchanged.
+    /// Does the step of a line, and returns what is printed for it: `unread: LINE` if it is no
+    /// step. A remark, which begins with `#`, and an empty line are returned as they are, with LF.
     fn work(&mut self, alloc: Global, line: &str) -> Result<String, Oom> {
         if line.is_empty() || line.starts_with('#') {
             return Ok(format!(in alloc; "{line}\n")?);

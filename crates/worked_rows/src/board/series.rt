@@ -19,7 +19,8 @@ fn are_alike(first: Category, second: Category) -> bool
     first == second || (of_rivers(first) && of_rivers(second))
 }
 
-/// Returns the number of the last product of a category, or 0 if there is none.
+/// Returns the number of the last of `products` that is of a category, where FLW and FLS count as
+/// one category, or 0 if there is none. `products` are in the order in which they were sent.
 pub fn last_of(products: &[Sent], category: Category) -> u32
     ensures { result ≡ last_of products.now category }
 {
@@ -32,7 +33,7 @@ pub fn last_of(products: &[Sent], category: Category) -> u32
     last
 }
 
-/// Whether there is a number and it is this one.
+/// Whether `found` is `Some` of `number`.
 fn is_number(number: u32, found: &Option<u32>) -> bool
     ensures { result ≡ is_number number found.now }
 {
@@ -49,7 +50,8 @@ fn corrects(number: u32, sent: &Sent) -> bool
     is_number(number, &sent.original)
 }
 
-/// Returns the number of corrections that the product with this number has, or 24 if it has more.
+/// Returns how many of `products` are corrections of the product with this number, at most 24.
+/// These are the letters that its corrections have used.
 pub fn letters_of(products: &[Sent], number: u32) -> u8
     ensures value { result ≡ letters_of products.now number }
     ensures range { result ≤ 24 }

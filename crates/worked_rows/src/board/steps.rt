@@ -42,7 +42,8 @@ pub enum Step {
     Fill(Hazard, u16, Minute),
 }
 
-/// Returns the flood values of a location, without a forecast.
+/// Returns the flood values of severity 0, cause ER and status OO at a location with this code,
+/// without times. It is never `None`, since `ER` is a cause.
 fn flood_at(site: [u8; 5]) -> Option<Flood> {
     Some(Flood {
         site,
@@ -55,17 +56,17 @@ fn flood_at(site: [u8; 5]) -> Option<Flood> {
     })
 }
 
-/// Returns the value, or `Unread` if there is none.
+/// Returns the value in `found`, or errs with `Unread` if it is `None`.
 fn known<T>(found: Option<T>) -> Result<T, Or<Unread>> {
     found.ok_or(Or::No(Unread))
 }
 
-/// Returns the next word.
+/// Returns the next of the words, or errs with `Unread` if there is none left.
 fn next_word<'a>(words: &mut SplitWhitespace<'a>) -> Result<&'a str, Or<Unread>> {
     known(words.next())
 }
 
-/// Returns texts in which `what` is this word.
+/// Returns texts in which `what` is `word` and the others are empty.
 fn texts_of(alloc: Global, word: &str) -> Result<Texts, Or<Unread>> {
     let what = List::from_slice(alloc, word.as_bytes())?;
     Ok(Texts {
@@ -76,7 +77,8 @@ fn texts_of(alloc: Global, word: &str) -> Result<Texts, Or<Unread>> {
     })
 }
 
-/// Returns the texts of a word `what=WORD`, or empty ones if there is no word.
+/// Returns the texts of a word `what=TEXT`, in which only `what` is not empty, or four empty texts
+/// for `None`. Errs with `Unread` for another word.
 fn said_of(alloc: Global, word: Option<&str>) -> Result<Texts, Or<Unread>> {
     let Some(word) = word else {
         return Ok(no_texts(alloc));
@@ -87,7 +89,8 @@ fn said_of(alloc: Global, word: Option<&str>) -> Result<Texts, Or<Unread>> {
     }
 }
 
-/// Returns the flood values of a word `flood` or `flood=SITE`, or `None` for another word.
+/// Returns the flood values of a word `flood` (at location `00000`) or `flood=SITE`, where SITE is
+/// five characters, or `None` for another word.
 fn flood_of(word: &str) -> Option<Flood> {
     match word.split_once('=') {
         None if word == "flood" => flood_at(*b"00000"),
@@ -96,8 +99,9 @@ fn flood_of(word: &str) -> Option<Flood> {
     }
 }
 
-/// Returns the put of the words `HAZARD-OR-EVENT ZONES BEGIN END`, then `flood` or `flood=SITE` for
-/// flood values, if any, then `what=WORD` for a text, if any.
+/// Returns the put of the next words `HAZARD-OR-EVENT ZONES BEGIN END`, then `flood` or
+/// `flood=SITE` for flood values, if any, then `what=TEXT` for a text, if any. Errs with `Unread`
+/// if a word is missing or cannot be read.
 fn put_of(alloc: Global, words: &mut SplitWhitespace<'_>) -> Result<Intent, Or<Unread>> {
     let mut put = PutPart {
         target: known(target_of(next_word(words)?))?,
@@ -118,7 +122,8 @@ fn put_of(alloc: Global, words: &mut SplitWhitespace<'_>) -> Result<Intent, Or<U
     Ok(Intent::Put(put))
 }
 
-/// Returns the part of the words `EVENT ZONES`, then `what=WORD` for a text, if any.
+/// Returns the event, the zones and the texts of the next words `EVENT ZONES`, then `what=TEXT` for
+/// a text, if any. Errs with `Unread` if a word is missing or cannot be read.
 fn part_of(alloc: Global, words: &mut SplitWhitespace<'_>) -> Result<EventPart, Or<Unread>> {
     let event = known(event_of(next_word(words)?))?;
     let zones = zones_of(alloc, next_word(words)?)?;
@@ -130,7 +135,8 @@ fn part_of(alloc: Global, words: &mut SplitWhitespace<'_>) -> Result<EventPart, 
     })
 }
 
-/// Returns the part of the words `HAZARD ZONES`, then `what=WORD` for a text, if any.
+/// Returns the hazard, the zones and the texts of the next words `HAZARD ZONES`, then `what=TEXT`
+/// for a text, if any. Errs with `Unread` if a word is missing or cannot be read.
 fn routine_of(alloc: Global, words: &mut SplitWhitespace<'_>) -> Result<RoutinePart, Or<Unread>> {
     let hazard = known(hazard_of(next_word(words)?))?;
     let zones = zones_of(alloc, next_word(words)?)?;
@@ -142,14 +148,16 @@ fn routine_of(alloc: Global, words: &mut SplitWhitespace<'_>) -> Result<RoutineP
     })
 }
 
-/// Returns the step of the words `STAMP CATEGORY`.
+/// Returns the step of the next words `STAMP CATEGORY`, which begins a draft to be sent at the
+/// minute of STAMP. Errs with `Unread` if a word is missing or cannot be read.
 fn at_of(words: &mut SplitWhitespace<'_>) -> Result<Step, Or<Unread>> {
     let minute = known(minute_of(next_word(words)?))?;
     let category = known(category_of(next_word(words)?))?;
     Ok(Step::At(minute, category))
 }
 
-/// Returns the texts of a word `EVENT=WORD`.
+/// Returns the event and the texts of a word `EVENT=TEXT`, with TEXT as `what` and the other texts
+/// empty. Errs with `Unread` if the word has another form.
 fn told_of(alloc: Global, word: &str) -> Result<EventTexts, Or<Unread>> {
     let (event, text) = known(word.split_once('='))?;
     let event = known(event_of(event))?;
@@ -157,7 +165,9 @@ fn told_of(alloc: Global, word: &str) -> Result<EventTexts, Or<Unread>> {
     Ok(EventTexts { event, texts })
 }
 
-/// Returns the step of the words `STAMP NUMBER`, then `EVENT=WORD` for each text.
+/// Returns the step of the words `STAMP NUMBER`, then `EVENT=TEXT` for each event with a text,
+/// which corrects product NUMBER at the minute of STAMP. Errs with `Unread` if a word is missing or
+/// cannot be read.
 fn correct_of(alloc: Global, words: &mut SplitWhitespace<'_>) -> Result<Step, Or<Unread>> {
     let minute = known(minute_of(next_word(words)?))?;
     let number = known(number_of(next_word(words)?))?;
@@ -168,7 +178,8 @@ fn correct_of(alloc: Global, words: &mut SplitWhitespace<'_>) -> Result<Step, Or
     Ok(Step::Correct(minute, number, texts))
 }
 
-/// Returns the step of the words `HAZARD COUNT STAMP`.
+/// Returns the step of the next words `HAZARD COUNT STAMP`, which opens COUNT events of HAZARD from
+/// the minute of STAMP on. Errs with `Unread` if a word is missing or cannot be read.
 fn fill_of(words: &mut SplitWhitespace<'_>) -> Result<Step, Or<Unread>> {
     let hazard = known(hazard_of(next_word(words)?))?;
     let count = known(number_of(next_word(words)?))?;
@@ -176,15 +187,17 @@ fn fill_of(words: &mut SplitWhitespace<'_>) -> Result<Step, Or<Unread>> {
     Ok(Step::Fill(hazard, count, minute))
 }
 
-/// Returns the step of the words `ZONE STAMP`.
+/// Returns the step of the next words `ZONE STAMP`, which prints the rows of ZONE that are live at
+/// the minute of STAMP. Errs with `Unread` if a word is missing or cannot be read.
 fn zone_step(words: &mut SplitWhitespace<'_>) -> Result<Step, Or<Unread>> {
     let zone = known(zone_of(next_word(words)?))?;
     let minute = known(minute_of(next_word(words)?))?;
     Ok(Step::Zone(zone, minute))
 }
 
-/// Returns the step of the words `STAMP ACTION EVENT ZONES BEGIN END`, with a line in each of the
-/// zones.
+/// Returns the step of the next words `STAMP ACTION EVENT ZONES BEGIN END`, which prints the least
+/// clash after a line in each of the zones at the minute of STAMP. Errs with `Unread` if a word is
+/// missing or cannot be read.
 fn clash_of(alloc: Global, words: &mut SplitWhitespace<'_>) -> Result<Step, Or<Unread>> {
     let minute = known(minute_of(next_word(words)?))?;
     let action = known(action_of(next_word(words)?))?;
@@ -206,7 +219,11 @@ fn clash_of(alloc: Global, words: &mut SplitWhitespace<'_>) -> Result<Step, Or<U
     Ok(Step::Clash(lines, minute))
 }
 
-/// Returns the step of the first words.
+/// Returns the step that the next of the words names (`day`, `at`, `put`, `end`, `restate`,
+/// `routine`, `send`, `preview`, `plan`, `correct`, `board`, `zone`, `clash`, `standing` or
+/// `fill`), with the words after it that the step has. Errs with `Unread` if the word is none of
+/// these names, or a word of the step is missing or cannot be read. Words behind those of the step
+/// are left, but for `correct`, which takes all.
 fn read_step(alloc: Global, words: &mut SplitWhitespace<'_>) -> Result<Step, Or<Unread>> {
     match next_word(words)? {
         "day" => Ok(Step::Day),
@@ -228,7 +245,9 @@ fn read_step(alloc: Global, words: &mut SplitWhitespace<'_>) -> Result<Step, Or<
     }
 }
 
-/// Returns the step of a line.
+/// Returns the step that a line is: its name (`day`, `at`, `put`, `end`, `restate`, `routine`,
+/// `send`, `preview`, `plan`, `correct`, `board`, `zone`, `clash`, `standing` or `fill`) and then
+/// its words, as `zone MDZ003 180103T1530Z`. White space is between them.
 ///
 /// # Errors
 ///

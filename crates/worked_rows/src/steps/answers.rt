@@ -4,8 +4,10 @@ use hazard_types::{Oom, end_text, stamp};
 use std::alloc::{AllocError, Global};
 use worked_lines::text_of;
 
-/// Appends the period of a life, the location of its flood values, if any, and whether a line has
-/// ended it.
+/// Appends a line with what a life, the row of an event in a zone, says: its period `BEGIN-END`,
+/// then after blanks the code of the location of its flood values, if any, and `ended` if a line
+/// has ended it. BEGIN and END are stamps such as `180103T1530Z`; END is `000000T0000Z` for until
+/// further notice.
 fn push_life(out: &mut String, life: &Life) -> Result<(), AllocError> {
     out.push_str(text_of(&stamp(life.period.begin)))?;
     out.push('-')?;
@@ -20,8 +22,9 @@ fn push_life(out: &mut String, life: &Life) -> Result<(), AllocError> {
     out.push('\n')
 }
 
-/// Returns the life that a line leaves, or its breach, or that it touches no life, as of a routine
-/// line.
+/// Returns what is printed for the outcome of a line: the period of the life that it leaves, with
+/// the flood location and `ended` where they apply, or the debug form of its breach. `None` is for
+/// a line that has no outcome, as a routine line, and gives `touches no life`.
 ///
 /// # Errors
 ///

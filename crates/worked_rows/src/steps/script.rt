@@ -18,8 +18,9 @@ pub struct Script {
     minute: Minute,
 }
 
-/// Returns the life or the breach of a line that is alone in its product at minute `t`, or `None`
-/// for a routine line.
+/// Returns the life that a line leaves, or the rule that it breaks, if it is alone in its product
+/// at minute `t`; `None` for a routine line, which is not judged. `rows` are those before the
+/// product, by zone, then event.
 fn stepped(rows: &[Row], t: Minute, line: &Line) -> Option<Result<Life, Breach>>
     ensures { result ≡ (if is_routine line.now.action then None
         else Some (step (life_at rows.now line.now) line.now t
@@ -34,6 +35,7 @@ fn stepped(rows: &[Row], t: Minute, line: &Line) -> Option<Result<Life, Breach>>
 }
 
 impl Script {
+    /// Returns a script without rows, at minute 0.
     pub fn new(alloc: Global) -> Self {
         Script {
             rows: Vec::new(alloc),
@@ -41,12 +43,15 @@ impl Script {
         }
     }
 
-    /// Returns what is printed for a line.
+    /// Returns what is printed for a line, alone in a product at the minute of the script: the life
+    /// that it leaves, its breach, or `touches no life`. The rows stay as they are.
     fn judge(&self, alloc: Global, line: &Line) -> Result<String, Oom> {
         answer_text(alloc, &stepped(&self.rows, self.minute, line))
     }
 
-    /// Returns what is printed for a line, and puts the row of the life that it leaves.
+    /// Judges a line, alone in a product at the minute of the script, and puts the row of the life
+    /// that it leaves, if it breaks no rule. Returns what is printed: the life, the breach, or
+    /// `touches no life`.
     fn take(&mut self, alloc: Global, line: &Line) -> Result<String, Oom> {
         let found = stepped(&self.rows, self.minute, line);
         if let Some(Ok(life)) = &found {
@@ -55,7 +60,8 @@ impl Script {
         answer_text(alloc, &found)
     }
 
-    /// Does a step, and returns what is printed for it.
+    /// Does a step, and returns what is printed for it: an empty text unless the step judges or
+    /// takes a line.
     fn step(&mut self, alloc: Global, step: &Step) -> Result<String, Oom> {
         match step {
             Step::Clear => self.rows.clear(),
@@ -69,7 +75,8 @@ impl Script {
 }
 
 impl Work for Script {
-    /// Returns what is printed for a line. A remark and an empty line are returned unchanged.
+    /// Does the step of a line, and returns what is printed for it: `unread: LINE` if it is no
+    /// step. A remark, which begins with `#`, and an empty line are returned as they are, with LF.
     fn work(&mut self, alloc: Global, line: &str) -> Result<String, Oom> {
         if line.is_empty() || line.starts_with('#') {
             return Ok(format!(in alloc; "{line}\n")?);

@@ -1,7 +1,7 @@
 //! The steps of a script of lives, and their words.
 use hazard_types::{
     Cause, End, Flood, Line, Minute, Period, Row, Severity, Status, Zone, actions, find,
-    parse_event, parse_zone, read_stamp, time_in,
+    parse_event, parse_stamp, parse_time, parse_zone,
 };
 use std::str::SplitWhitespace;
 
@@ -24,17 +24,18 @@ pub enum Step {
     Take(Line),
 }
 
-/// Returns the value, or `Unread` if there is none.
+/// Returns the value in `found`, or errs with `Unread` if it is `None`.
 fn known<T>(found: Option<T>) -> Result<T, Unread> {
     found.ok_or(Unread)
 }
 
-/// Returns the next word.
+/// Returns the next of the words, or errs with `Unread` if there is none left.
 fn next_word<'a>(words: &mut SplitWhitespace<'a>) -> Result<&'a str, Unread> {
     known(words.next())
 }
 
-/// Returns the values of a minor flood at a location of five characters, or `None`.
+/// Returns the flood values of severity 1 (minor), cause ER and status NO at a location, without
+/// times, or `None` if its code has not five bytes.
 fn flood_at(location: &str) -> Option<Flood> {
     let [a, b, c, d, e] = location.as_bytes() else {
         return None;
@@ -50,7 +51,8 @@ fn flood_at(location: &str) -> Option<Flood> {
     })
 }
 
-/// Returns the flood values of a last word, if there is one.
+/// Returns the flood values at the location whose code is the word, or `Ok(None)` if there is no
+/// word. Errs with `Unread` if the word has not five bytes.
 fn flood_of(word: Option<&str>) -> Result<Option<Flood>, Unread> {
     match word {
         None => Ok(None),
@@ -58,12 +60,14 @@ fn flood_of(word: Option<&str>) -> Result<Option<Flood>, Unread> {
     }
 }
 
-/// Returns the minute of a stamp, or `None` for zeros.
+/// Returns the minute of a stamp such as `180103T1530Z` (UTC), or `Ok(None)` for the zeros
+/// `000000T0000Z`. Errs with `Unread` if the word is neither.
 fn time_of(word: &str) -> Result<Option<Minute>, Unread> {
-    known(time_in(word.as_bytes()))
+    known(parse_time(word.as_bytes()))
 }
 
-/// Returns the end of a stamp, or until further notice for zeros.
+/// Returns the end that a word gives, a stamp such as `180103T1530Z`, or the zeros `000000T0000Z`
+/// for until further notice. Errs with `Unread` if the word is neither.
 fn end_of(word: &str) -> Result<End, Unread> {
     match time_of(word)? {
         Some(minute) => Ok(End::At(minute)),
@@ -71,17 +75,21 @@ fn end_of(word: &str) -> Result<End, Unread> {
     }
 }
 
-/// Returns the minute of a stamp.
+/// Returns the minute of a stamp such as `180103T1530Z` (UTC), or errs with `Unread` if the word is
+/// no stamp.
 fn minute_of(word: &str) -> Result<Minute, Unread> {
-    known(read_stamp(word.as_bytes()))
+    known(parse_stamp(word.as_bytes()))
 }
 
-/// Returns the zone of a code, as `MDZ003`.
+/// Returns the zone that a word such as `MDZ003` is, or errs with `Unread` if the word has another
+/// form.
 fn zone_of(word: &str) -> Result<Zone, Unread> {
     known(parse_zone(word.as_bytes()))
 }
 
-/// Returns the row of the words `ZONE EVENT BEGIN END`, with the location of flood values, if any.
+/// Returns the row of the next words `ZONE EVENT BEGIN END`, then the location of its flood values,
+/// if any; `ended` says whether a line has ended it. END is zeros for until further notice. Errs
+/// with `Unread` if a word is missing or cannot be read.
 fn row_of(words: &mut SplitWhitespace<'_>, ended: bool) -> Result<Row, Unread> {
     let zone = zone_of(next_word(words)?)?;
     let event = known(parse_event(next_word(words)?.as_bytes()))?;
@@ -97,9 +105,9 @@ fn row_of(words: &mut SplitWhitespace<'_>, ended: bool) -> Result<Row, Unread> {
     })
 }
 
-/// Returns the line of the words `ACTION ZONE EVENT BEGIN END`, with the location of flood values,
-/// if any. A begin that has passed and an end until further notice are zeros, as in a P-VTEC
-/// string.
+/// Returns the line of the next words `ACTION ZONE EVENT BEGIN END`, then the location of its flood
+/// values, if any. A begin that has passed and an end until further notice are zeros, as in a
+/// P-VTEC string. Errs with `Unread` if a word is missing or cannot be read.
 fn line_of(words: &mut SplitWhitespace<'_>) -> Result<Line, Unread> {
     let action = known(find(&actions(), next_word(words)?.as_bytes()))?;
     let zone = zone_of(next_word(words)?)?;
@@ -117,7 +125,10 @@ fn line_of(words: &mut SplitWhitespace<'_>) -> Result<Line, Unread> {
     })
 }
 
-/// Returns the step of the first words.
+/// Returns the step that the next of the words names (`clear`, `at`, `row`, `ended`, `judge` or
+/// `step`), with the words after it that the step has. Errs with `Unread` if the word is none of
+/// these names, or a word of the step is missing or cannot be read. Words behind those of the step
+/// are left.
 fn read_step(words: &mut SplitWhitespace<'_>) -> Result<Step, Unread> {
     match next_word(words)? {
         "clear" => Ok(Step::Clear),
@@ -130,7 +141,8 @@ fn read_step(words: &mut SplitWhitespace<'_>) -> Result<Step, Unread> {
     }
 }
 
-/// Returns the step of a line.
+/// Returns the step that a line is: its name (`clear`, `at`, `row`, `ended`, `judge` or `step`) and
+/// then its words, as `at 180103T1530Z`. White space is between them.
 ///
 /// # Errors
 ///

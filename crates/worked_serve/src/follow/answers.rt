@@ -7,14 +7,16 @@ use worked_lines::times_of;
 /// The body of the answer that there is no later product.
 const NO_PRODUCT: &str = "{\"no\":\"E14\",\"rule\":\"NoProduct\"}";
 
-/// Returns the kept text with this number, from 1, or `None` if there is none.
+/// Returns the text at the place `number`, counted from 1, of the list `kept`, or `None` if the
+/// word is no number or there is no text at that place.
 pub fn kept_text<'a>(kept: &'a [Text], number: &str) -> Option<&'a [u8]> {
     let number = number.parse::<usize>().ok()?;
     let text = kept.get(number.checked_sub(1)?)?;
     Some(text.as_slice())
 }
 
-/// Appends an answer with a body. `field` is empty or the last field of its head.
+/// Appends an HTTP answer with a body. `status` is such as `200 OK`, and `field` is empty or the
+/// last field of the head, with its CR and LF.
 fn add_answer(
     alloc: Global,
     bytes: &mut Text,
@@ -28,9 +30,11 @@ fn add_answer(
     bytes.extend(body)
 }
 
-/// Appends the bytes of a line, and returns whether it has any: an answer with a kept text, one
-/// after which the link closes, the answer that there is no later product, a line of a head, or
-/// other bytes.
+/// Appends the bytes that a line of a script stands for, and returns true. `answer K` is an HTTP
+/// answer with text K, from 1, of `kept` as its body, `closing K` the same with a closing link,
+/// `none` the answer that there is no later product, `head LINE` one line of a head, and `bytes
+/// BYTES` these bytes alone. Returns false, and appends nothing, for another word or if `kept` has
+/// no text K.
 fn add_once(alloc: Global, bytes: &mut Text, kept: &[Text], line: &str) -> Result<bool, Oom> {
     let (word, rest) = line.split_once(' ').unwrap_or((line, ""));
     match word {
@@ -51,7 +55,10 @@ fn add_once(alloc: Global, bytes: &mut Text, kept: &[Text], line: &str) -> Resul
     Ok(true)
 }
 
-/// Appends the bytes of a line, as often as it sets, and returns whether it has any.
+/// Appends the bytes that a line of a script stands for, and returns true: `answer K` or `closing
+/// K` (an answer with text K, from 1, of `kept` as its body), `none`, `head LINE` or `bytes BYTES`.
+/// For a line `times N LINE` it appends those of LINE N times, at most 100,000; for N = 0 LINE may
+/// be anything. Returns false, and appends nothing, for any other line and if `kept` has no text K.
 ///
 /// # Errors
 ///

@@ -12,6 +12,7 @@ pub struct LinkGiven {
 }
 
 impl LinkGiven {
+    /// Returns a link on which no bytes come and no call fails.
     pub fn new(alloc: Global) -> Self {
         LinkGiven {
             bytes: List::new(alloc),
@@ -30,7 +31,7 @@ pub struct Given {
 }
 
 impl Given {
-    /// Returns no link and no fault.
+    /// Returns a dialer without links, and no dial or write that fails.
     pub fn new(alloc: Global) -> Self {
         Given {
             links: List::new(alloc),
@@ -39,7 +40,7 @@ impl Given {
         }
     }
 
-    /// Moves a link to the others, and leaves an empty one in its place.
+    /// Appends `link` to the links of the dialer, and leaves an empty one in its place.
     ///
     /// # Errors
     ///

@@ -14,7 +14,7 @@ pub struct Office {
 }
 
 impl Office {
-    /// Returns an office without settings and journal.
+    /// Returns an office whose settings are empty and which has no journal yet.
     pub fn new(alloc: Global) -> Self {
         Office {
             settings: List::new(alloc),
@@ -22,7 +22,9 @@ impl Office {
         }
     }
 
-    /// Makes the journal of a new office, and returns whether the office was created.
+    /// Creates a new office with the settings on an empty disk and sets the journal to the one that
+    /// this makes. Returns whether the office was created; if it was not, as for settings that have
+    /// a fault, the journal is as before.
     ///
     /// # Errors
     ///
@@ -38,7 +40,10 @@ impl Office {
         }
     }
 
-    /// Serves a link that has these bytes. Returns `None` if there is no journal.
+    /// Serves one link on which `bytes` come over a copy of the office, and returns how the link
+    /// ended, what was written on it, the journal that this leaves, and the number of requests in
+    /// it. `None` if the office has no journal yet, as before `make_journal`. The office that is
+    /// kept here is unchanged.
     ///
     /// # Errors
     ///
@@ -53,7 +58,7 @@ impl Office {
     }
 }
 
-/// Returns the HTTP call that posts a request.
+/// Returns the text of an HTTP call that posts `body`, a request in JSON, to `/requests`.
 ///
 /// # Errors
 ///
@@ -63,7 +68,9 @@ pub fn post_text(alloc: Global, body: &str) -> Result<String, Oom> {
     Ok(format!(in alloc; "POST /requests HTTP/1.1\r\nContent-Length: {count}\r\n\r\n{body}")?)
 }
 
-/// Returns the HTTP calls that get the products after places 0 to `count` - 1.
+/// Returns the bytes of `count` HTTP calls, one after another, which ask for the products after the
+/// places 0, 1, .. `count` - 1. A place is a number of products, so the call for place 0 asks for
+/// the first product.
 ///
 /// # Errors
 ///

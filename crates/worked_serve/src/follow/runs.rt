@@ -35,7 +35,9 @@ pub struct Run {
     pub asked: List<Text>,
 }
 
-/// Returns the links of a dialer.
+/// Returns links in memory, in order, with the bytes and the calls that fail of the links that
+/// `given` sets. Only the first `cut.first` bytes of the first link come, and a read returns at
+/// most `cut.piece` bytes, or 1 if that is 0.
 fn links_of(alloc: Global, given: &Given, cut: Cut) -> Result<List<MemLink>, Oom>
     ensures { IfOk result (All IsUntouched) }
 {
@@ -51,7 +53,9 @@ fn links_of(alloc: Global, given: &Given, cut: Cut) -> Result<List<MemLink>, Oom
     Ok(links)
 }
 
-/// Returns a dialer of the links.
+/// Returns a dialer in memory that gives, in order, the links that `given` sets, and on which the
+/// given dials fail. Only the first `cut.first` bytes of the first link come, and a read returns at
+/// most `cut.piece` bytes, or 1 if that is 0.
 fn dialer_of(alloc: Global, given: &Given, cut: Cut) -> Result<MemDialer, Oom>
     ensures { IfOk result (λ dialer. (dialer.given ≡ 0) × (dialer.back ≡ [])) }
 {
@@ -59,15 +63,17 @@ fn dialer_of(alloc: Global, given: &Given, cut: Cut) -> Result<MemDialer, Oom>
     MemDialer::new(alloc, links, &given.dials)
 }
 
-/// Follows with these words as arguments, and returns the exit status.
+/// Runs the follower with the arguments `words` over a dialer that has given no link yet, and
+/// returns the exit status. What the follower writes is in `output`.
 fn follow(alloc: Global, words: &List<Text>, dialer: &mut MemDialer, output: &mut MemSink) -> u8
     requires { (dialer.old.given ≡ 0) × (dialer.old.back ≡ []) }
 {
     follow_run(alloc, words, dialer, output)
 }
 
-/// Returns what was written on each link that the dialer took back.
-fn asked_on(alloc: Global, dialer: &MemDialer) -> Result<List<Text>, Oom> {
+/// Returns what was written on each link that the dialer took back, in the order in which it took
+/// them back.
+fn written_on_links(alloc: Global, dialer: &MemDialer) -> Result<List<Text>, Oom> {
     let mut asked = List::new(alloc);
     for link in dialer.links() {
         asked.push(link.written().clone()?)?;
@@ -75,7 +81,10 @@ fn asked_on(alloc: Global, dialer: &MemDialer) -> Result<List<Text>, Oom> {
     Ok(asked)
 }
 
-/// Follows with these words as arguments, over the links.
+/// Runs the follower with the arguments `words` over the links that `given` sets, and returns its
+/// exit status, what it wrote, and what was written on each link that it gave back, in that order.
+/// Only the first `cut.first` bytes of the first link come, and a read returns at most `cut.piece`
+/// bytes, or 1 if that is 0.
 ///
 /// # Errors
 ///
@@ -84,7 +93,7 @@ pub fn run_follow(alloc: Global, given: &Given, words: &List<Text>, cut: Cut) ->
     let mut output = output_of(alloc, &given.writes)?;
     let mut dialer = dialer_of(alloc, given, cut)?;
     let status = follow(alloc, words, &mut dialer, &mut output);
-    let asked = asked_on(alloc, &dialer)?;
+    let asked = written_on_links(alloc, &dialer)?;
     let told = output.taken().clone()?;
     Ok(Run {
         status,

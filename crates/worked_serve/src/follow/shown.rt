@@ -3,7 +3,8 @@ use crate::follow::runs::Run;
 use hazard_types::{Oom, Text};
 use std::alloc::Global;
 
-/// Appends the bytes in one line, with CR and LF as `\r` and `\n`.
+/// Appends the bytes as one line, with each CR and LF as a backslash and the letter r or n, and a
+/// line end.
 fn add_line(answer: &mut String, bytes: &[u8]) -> Result<(), Oom> {
     for byte in bytes {
         match byte {
@@ -16,7 +17,7 @@ fn add_line(answer: &mut String, bytes: &[u8]) -> Result<(), Oom> {
     Ok(())
 }
 
-/// Appends a text, and a line end if it has none.
+/// Appends a text, and a line end if it is not empty and does not end with one.
 fn add_text(answer: &mut String, text: &Text) -> Result<(), Oom> {
     for byte in text.as_slice() {
         answer.push(char::from(*byte))?;
@@ -27,8 +28,8 @@ fn add_text(answer: &mut String, text: &Text) -> Result<(), Oom> {
     Ok(())
 }
 
-/// Returns what the program wrote, its exit status, and a line for each link with what was written
-/// on it.
+/// Returns what is printed of a run: what the program wrote, the line `status STATUS`, and a line
+/// `link BYTES` for each link with what was written on it, in order.
 ///
 /// # Errors
 ///
@@ -45,8 +46,8 @@ pub fn run_answer(alloc: Global, run: &Run) -> Result<String, Oom> {
     Ok(answer)
 }
 
-/// Returns what the program wrote, its exit status, and the numbers of links and of bytes written
-/// on them.
+/// Returns what the program wrote, and a line of numbers: its exit status, how many links it had,
+/// and how many bytes were written on all of them together.
 ///
 /// # Errors
 ///

@@ -4,7 +4,7 @@ use crate::follow::runs::{Cut, Run, WHOLE, run_follow};
 use hazard_types::{List, Oom, Text};
 use std::alloc::Global;
 
-/// Returns the number of bytes on the first link.
+/// Returns the number of bytes that come on the first link, 0 without a link.
 fn first_length(given: &Given) -> usize {
     match given.links.as_slice() {
         [link, ..] => link.bytes.len(),
@@ -17,7 +17,8 @@ fn are_alike(one: &Run, other: &Run) -> bool {
     one.status == other.status && one.told == other.told && one.asked.len() == other.asked.len()
 }
 
-/// Returns the first line of what was written.
+/// Returns the first line of `told`, what the program wrote, without its line end, or all of it if
+/// it has none.
 fn first_line(alloc: Global, told: &Text) -> Result<String, Oom> {
     let mut line = String::new(alloc);
     for byte in told.as_slice() {
@@ -29,7 +30,8 @@ fn first_line(alloc: Global, told: &Text) -> Result<String, Oom> {
     Ok(line)
 }
 
-/// Follows with only the first `count` bytes of the first link.
+/// Runs the follower with only the first `count` bytes of the first link, and returns how the run
+/// ended. `words` are the follower's arguments.
 fn run_cut(alloc: Global, given: &Given, words: &List<Text>, count: usize) -> Result<Run, Oom> {
     let cut = Cut {
         first: count,
@@ -38,7 +40,9 @@ fn run_cut(alloc: Global, given: &Given, words: &List<Text>, count: usize) -> Re
     run_follow(alloc, given, words, cut)
 }
 
-/// Returns the line of a run with only the first `count` bytes of the first link.
+/// Returns the line `from COUNT: LINE, status STATUS, links LINKS` of a run with only the first
+/// `count` bytes of the first link. LINE is the first line that the program wrote, and LINKS the
+/// number of its links.
 fn cut_line(alloc: Global, count: usize, run: &Run) -> Result<String, Oom> {
     let status = run.status;
     let links = run.asked.len();
@@ -54,7 +58,8 @@ struct Sweep {
 }
 
 impl Sweep {
-    /// Whether the last run ended like this one.
+    /// Whether there was a run before, and the last one ended like `run`: with the same exit
+    /// status, the same output, and as many links.
     fn had(&self, run: &Run) -> bool {
         match &self.last {
             Some(last) => are_alike(last, run),
@@ -62,8 +67,8 @@ impl Sweep {
         }
     }
 
-    /// Takes a run with only the first `count` bytes of the first link, and appends its line if it
-    /// ended otherwise than the last one.
+    /// Sets the last run to `run`, one with only the first `count` bytes of the first link. Appends
+    /// its line to the answer if it ended otherwise than the last run before it, or was the first.
     fn take(&mut self, alloc: Global, count: usize, run: Run) -> Result<(), Oom> {
         if !self.had(&run) {
             let line = cut_line(alloc, count, &run)?;
@@ -74,8 +79,10 @@ impl Sweep {
     }
 }
 
-/// Returns a line for each number of first bytes of the first link, from 0, whose run ended
-/// otherwise than the one before it.
+/// Runs the follower, with the arguments `words`, on the first 0, 1, .. up to all bytes of the
+/// first link. Returns the line `from COUNT: LINE, status STATUS, links LINKS` of the first run and
+/// of each that ended otherwise than the one before it: with another exit status, another output or
+/// another number of links. LINE is the first line that the follower wrote.
 ///
 /// # Errors
 ///
@@ -92,7 +99,8 @@ pub fn sweep_cuts(alloc: Global, given: &Given, words: &List<Text>) -> Result<St
     Ok(sweep.answer)
 }
 
-/// Follows over links whose reads return at most `piece` bytes.
+/// Runs the follower over links whose reads return at most `piece` bytes, and returns how the run
+/// ended. `words` are the follower's arguments.
 fn run_pieces(alloc: Global, given: &Given, words: &List<Text>, piece: usize) -> Result<Run, Oom> {
     let cut = Cut {
         first: usize::MAX,
@@ -101,8 +109,10 @@ fn run_pieces(alloc: Global, given: &Given, words: &List<Text>, piece: usize) ->
     run_follow(alloc, given, words, cut)
 }
 
-/// Returns how many sizes of pieces there are, from 1 to the bytes of the first link, and at how
-/// many of them the run ended otherwise than with all bytes at once.
+/// Runs the follower, with the arguments `words`, once for each size of a read, from 1 to the
+/// number of bytes of the first link. Returns the line `sizes COUNT, differ COUNT`: the number of
+/// the sizes, and with how many of them the run had another exit status, another output or another
+/// number of links than with all bytes at once.
 ///
 /// # Errors
 ///

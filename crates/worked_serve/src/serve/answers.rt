@@ -7,7 +7,8 @@ use warn_serve::LinkEnd;
 /// The bytes that each answer on a link begins with.
 const ANSWER: &[u8] = b"HTTP/1.1 ";
 
-/// Appends the bytes, with CR as `\r`, and a line end if they have none.
+/// Appends the bytes, each CR of them as a backslash and the letter r, and then a line end if they
+/// do not end with one.
 ///
 /// # Errors
 ///
@@ -25,7 +26,7 @@ pub fn add_bytes(answer: &mut String, bytes: &[u8]) -> Result<(), Oom> {
     Ok(())
 }
 
-/// Returns how often the bytes have this part.
+/// Returns at how many places of the bytes `part`, which is not empty, begins.
 pub fn count_of(bytes: &[u8], part: &[u8]) -> u64
     requires { 0 < length part.now }
 {
@@ -38,12 +39,13 @@ pub fn count_of(bytes: &[u8], part: &[u8]) -> u64
     count
 }
 
-/// Returns the number of answers on a link.
+/// Returns at how many places of what was written on a link `HTTP/1.1 ` begins, with which each
+/// HTTP answer begins. This is the number of answers if no body has these bytes.
 pub fn count_answers(written: &Text) -> u64 {
     count_of(written.as_slice(), ANSWER)
 }
 
-/// Returns the name of how a link ended.
+/// Returns the name of the variant `end`, which says how the serving of a link ended, as `Closed`.
 pub fn end_name(end: LinkEnd) -> &'static str {
     match end {
         LinkEnd::Closed => "Closed",

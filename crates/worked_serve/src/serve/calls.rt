@@ -4,8 +4,9 @@ use hazard_types::{Oom, Text};
 use std::alloc::Global;
 use worked_lines::times_of;
 
-/// Appends the bytes of a line, and returns whether it has any: a call that gets a path, one that
-/// posts a body, a line of a head, or other bytes.
+/// Appends the bytes that a line of a script stands for, and returns true. `get PATH` is an HTTP
+/// call that gets a path, `post BODY` one that posts BODY to `/requests`, `head LINE` one line of a
+/// head, and `bytes BYTES` these bytes alone. Returns false, and appends nothing, for another word.
 fn add_once(alloc: Global, bytes: &mut Text, line: &str) -> Result<bool, Oom> {
     let (word, rest) = line.split_once(' ').unwrap_or((line, ""));
     match word {
@@ -23,7 +24,10 @@ fn add_once(alloc: Global, bytes: &mut Text, line: &str) -> Result<bool, Oom> {
     Ok(true)
 }
 
-/// Appends the bytes of a line, as often as it sets, and returns whether it has any.
+/// Appends the bytes that a line of a script stands for, and returns true: `get PATH` or `post
+/// BODY` (an HTTP call), `head LINE` (a line of a head) or `bytes BYTES`. For a line `times N LINE`
+/// it appends those of LINE N times, at most 100,000; for N = 0 LINE may be anything. Returns
+/// false, and appends nothing, for any other line.
 ///
 /// # Errors
 ///

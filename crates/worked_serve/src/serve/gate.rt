@@ -16,7 +16,8 @@ pub struct HoldingGate {
 }
 
 impl HoldingGate {
-    /// Returns a gate that no call has entered.
+    /// Returns a gate that no call has entered. `holds` is whether it holds the first call until
+    /// another one has left.
     pub fn new(holds: bool) -> Self {
         HoldingGate {
             holds,
@@ -26,7 +27,8 @@ impl HoldingGate {
         }
     }
 
-    /// Waits until a call has left, or records that none did within `MOST_LOOKS` looks.
+    /// Waits until a call has left the gate. After 1,000,000,000 looks at which none had left it
+    /// gives up and returns, and records this for `is_spent`.
     fn wait(&self) {
         for _ in 0..MOST_LOOKS {
             if 0 < self.answered.load(Ordering::SeqCst) {
@@ -36,7 +38,8 @@ impl HoldingGate {
         let _ = self.spent.fetch_add(1, Ordering::SeqCst);
     }
 
-    /// Whether a call was held for `MOST_LOOKS` looks.
+    /// Whether a call was held in vain: no other call had left when the gate gave up, after
+    /// 1,000,000,000 looks.
     pub fn is_spent(&self) -> bool {
         0 < self.spent.load(Ordering::SeqCst)
     }

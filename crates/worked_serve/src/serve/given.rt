@@ -3,10 +3,10 @@ ghost use Rattle.std.specs.Prelude.{◌<◌, length, IfOk};
 
 use crate::memory::{clock_of, journal_of};
 use desk_traits::{MemDisk, SetClock};
-use hazard_types::{List, Oom, Text, read_stamp};
+use hazard_types::{List, Oom, Text, parse_stamp};
 use std::alloc::Global;
 
-/// Returns a list of one reading.
+/// Returns a list of the one clock reading `reading`, in minutes since 2000-01-01 00:00 UTC.
 ///
 /// # Errors
 ///
@@ -37,7 +37,7 @@ pub struct Given {
 }
 
 impl Given {
-    /// Returns an empty file, a clock at 0, and no fault.
+    /// Returns an empty file, a clock without readings, and no fault.
     pub fn new(alloc: Global) -> Self {
         Given {
             file: List::new(alloc),
@@ -49,7 +49,8 @@ impl Given {
         }
     }
 
-    /// Returns the disk.
+    /// Returns a disk in memory with the file, the calls that fail, and the state after a crash
+    /// that are set here.
     ///
     /// # Errors
     ///
@@ -64,7 +65,8 @@ impl Given {
         )
     }
 
-    /// Returns the same with a disk that stops after call `stop`.
+    /// Returns a copy of what is set, with a disk whose calls after call `stop`, counted from 1,
+    /// all fail. `pick` chooses which of the disk's writes since the last sync a crash leaves.
     ///
     /// # Errors
     ///
@@ -80,7 +82,7 @@ impl Given {
         })
     }
 
-    /// Returns the clock. Without readings it is at 0.
+    /// Returns a clock with the readings that are set; without any it is at 2000-01-01 00:00 UTC.
     ///
     /// # Errors
     ///
@@ -92,7 +94,9 @@ impl Given {
         clock_of(&self.readings)
     }
 
-    /// Makes the file the journal of a new office, and returns whether the office was created.
+    /// Makes the file the journal of a new office with `settings`, the text of its settings' file,
+    /// and returns whether the office was created. If it was not, as for a file that has a journal
+    /// or settings that have a fault, the file is as before.
     ///
     /// # Errors
     ///
@@ -109,7 +113,8 @@ impl Given {
     }
 }
 
-/// Returns the minutes of stamps, or `None` if a word is no stamp.
+/// Returns the minutes, since 2000-01-01 00:00 UTC, of the stamps in `stamps`, which white space
+/// separates, in order. `None` if a word is no stamp, such as `180103T1530Z`.
 ///
 /// # Errors
 ///
@@ -117,7 +122,7 @@ impl Given {
 pub fn minutes_of(alloc: Global, stamps: &str) -> Result<Option<List<i64>>, Oom> {
     let mut minutes = List::new(alloc);
     for stamp in stamps.split_whitespace() {
-        match read_stamp(stamp.as_bytes()) {
+        match parse_stamp(stamp.as_bytes()) {
             Some(minute) => minutes.push(i64::from(minute.get()))?,
             None => return Ok(None),
         }

@@ -22,7 +22,9 @@ pub struct LinkRun {
     pub requests: u64,
 }
 
-/// Returns what the serving of a link left.
+/// Returns how the serving of a link ended, what was written on the link, the file of the disk and
+/// the number of requests. `link` is the link after it was served, and `left` is what that left of
+/// the office.
 fn link_run(link: &MemLink, left: &Left<MemDisk>) -> Result<LinkRun, Oom> {
     let written = link.written().clone()?;
     let file = left.disk.file().clone()?;
@@ -34,8 +36,10 @@ fn link_run(link: &MemLink, left: &Left<MemDisk>) -> Result<LinkRun, Oom> {
     })
 }
 
-/// Serves a link that has these bytes, in pieces of at most `piece`. Returns `None` if the file is
-/// no journal.
+/// Serves one link on which `bytes` come, at most `piece` of them a read, over the disk and the
+/// clock that `given` sets. Returns how the link ended, what was written on it, and the file of the
+/// disk and the number of requests afterwards. `None` if no office can be opened: the file is no
+/// office's journal, or while it is opened a call of the disk fails or memory runs out.
 ///
 /// # Errors
 ///

@@ -25,6 +25,7 @@ pub struct DoorGiven {
 }
 
 impl DoorGiven {
+    /// Returns a door on which no link comes and no accept fails.
     pub fn new(alloc: Global) -> Self {
         DoorGiven {
             links: List::new(alloc),
@@ -36,7 +37,8 @@ impl DoorGiven {
 /// The largest number of bytes that a read of a link returns.
 const PIECE: usize = 4096;
 
-/// Returns the links of a door.
+/// Returns the links, in memory and in order, that come on `door`. On each of them the calls with
+/// the numbers in `given.broken` fail, from 1, reads and writes counted together.
 fn links_of(alloc: Global, given: &Given, door: &DoorGiven) -> Result<List<MemLink>, Oom>
     ensures { IfOk result (All IsUntouched) }
 {
@@ -47,7 +49,9 @@ fn links_of(alloc: Global, given: &Given, door: &DoorGiven) -> Result<List<MemLi
     Ok(links)
 }
 
-/// Returns a port with these doors.
+/// Returns a port in memory with the doors `doors`, on which nothing was served yet. On each of its
+/// links the calls with the numbers in `given.broken` fail, from 1, reads and writes counted
+/// together, and of each door the accepts with the numbers that it sets.
 fn port_of(alloc: Global, given: &Given, doors: &[DoorGiven]) -> Result<MemPort, Oom>
     ensures { IfOk result (λ port. port.back ≡ []) }
 {
@@ -67,7 +71,9 @@ pub enum Shown {
     Counts,
 }
 
-/// Appends the links of each door that took one back.
+/// Appends, for each door that has taken links back, the line `door of COUNT` with the number of
+/// these links. After it comes for each of the links, in the order in which they were taken back,
+/// what was written on it (`Texts`), or a line with the number of answers among that (`Counts`).
 fn add_links(alloc: Global, answer: &mut String, port: &MemPort, shown: Shown) -> Result<(), Oom> {
     for links in port.links() {
         let count = links.len();
@@ -85,7 +91,7 @@ fn add_links(alloc: Global, answer: &mut String, port: &MemPort, shown: Shown) -
     Ok(())
 }
 
-/// Appends a line for each number at which a port listened.
+/// Appends a line for each port number at which the port listened, in order.
 fn add_numbers(alloc: Global, answer: &mut String, port: &MemPort) -> Result<(), Oom> {
     for number in port.numbers() {
         answer.push_str(format!(in alloc; "listened at {number}\n")?.as_str())?;
@@ -104,7 +110,8 @@ pub struct Ran {
 }
 
 impl Ran {
-    /// Returns how the program ended.
+    /// Returns how the program ended. `output` has what it wrote, and `ended` its exit status and
+    /// its disk, of which the file and what a crash leaves are taken.
     fn of(output: &MemSink, ended: Ended<MemDisk>) -> Result<Self, Oom> {
         let Ended { status, disk } = ended;
         let output = output.taken().clone()?;
@@ -119,7 +126,7 @@ impl Ran {
     }
 }
 
-/// Appends what the program wrote, and its exit status.
+/// Appends what the program wrote, and then the line `status STATUS` with its exit status.
 ///
 /// # Errors
 ///
@@ -131,7 +138,9 @@ pub fn add_output(alloc: Global, answer: &mut String, ran: &Ran) -> Result<(), O
     Ok(())
 }
 
-/// Serves a port over the disk of a run.
+/// Serves `port` over the disk that `given` sets, and returns how the program ended. `means` has
+/// the threads, the clock and the gate of the calls, and `serving` the port number, workers and
+/// connections. No link of the port must have been returned before.
 ///
 /// # Errors
 ///
@@ -158,7 +167,9 @@ pub struct PortRun {
     pub ran: Ran,
 }
 
-/// Serves a port with these doors, through a gate that may hold the first call.
+/// Serves a port in memory with the doors `doors` over the disk and the clock that `given` sets,
+/// and returns the port and how the program ended. The calls pass `gate`, which may hold the first
+/// one.
 ///
 /// # Errors
 ///
@@ -185,8 +196,8 @@ pub fn serve_doors<R: Threads + Wait + Sync>(
     Ok(PortRun { port, ran })
 }
 
-/// Returns the numbers at which a port listened, what was written on its links, what the program
-/// wrote, and its exit status.
+/// Returns what is printed of a run: the port numbers that were listened at, then of each link what
+/// `shown` selects, then what the program wrote and its exit status.
 ///
 /// # Errors
 ///

@@ -30,8 +30,8 @@ const MOST_PORTS: u16 = 100;
 /// The largest number of dials that are tried, and of reads.
 const MOST_TRIES: u32 = 200_000;
 
-/// Returns the port number to begin with, by the clock's nanoseconds, so that two programs rarely
-/// meet.
+/// Returns the port number to begin with, 21,000 to 30,999. It is chosen by the clock's
+/// nanoseconds, so that two programs rarely meet, and is 21,000 if the clock cannot be read.
 fn first_number<R: Clock>(rt: &R) -> u16 {
     let Ok(now) = SystemTime::now(rt) else {
         return FIRST;
@@ -42,7 +42,9 @@ fn first_number<R: Clock>(rt: &R) -> u16 {
     }
 }
 
-/// Returns a free port number and a door that occupies it, or `None` if none was found.
+/// Returns a free port number of this machine and the list of the one door that listens at it,
+/// which occupies it until dropped. `None` if the 100 numbers that are tried, one after another,
+/// are all in use.
 fn free_port<R: Clock + Sync + Net<Listener = TcpListener, Stream = TcpStream>>(
     rt: &R,
     alloc: Global,
@@ -58,7 +60,8 @@ fn free_port<R: Clock + Sync + Net<Listener = TcpListener, Stream = TcpStream>>(
     None
 }
 
-/// Serves a port of this machine, and returns what the program wrote.
+/// Serves a port of this machine over the disk and the clock that `given` sets. Returns what the
+/// program wrote, and a line with its exit status.
 fn serve_host<R: Clock + Threads + Wait + Sync + Net<Listener = TcpListener, Stream = TcpStream>>(
     rt: &R,
     alloc: Global,
@@ -82,7 +85,7 @@ fn serve_host<R: Clock + Threads + Wait + Sync + Net<Listener = TcpListener, Str
     Ok(answer)
 }
 
-/// Returns a link of a new dialer, or `None` if the dial fails.
+/// Returns a link to the port `number` of this machine, or `None` if the one dial fails.
 fn dial_once<R: Clock + Sync + Net<Listener = TcpListener, Stream = TcpStream>>(
     rt: &R,
     number: u16,
@@ -91,8 +94,8 @@ fn dial_once<R: Clock + Sync + Net<Listener = TcpListener, Stream = TcpStream>>(
     dialer.dial().ok()
 }
 
-/// Returns a link to the port number, dialed again and again until the other side listens, or
-/// `None` after `MOST_TRIES` dials.
+/// Returns a link to the port `number` of this machine, which is dialed again until a dial
+/// succeeds. `None` after 200,000 dials that failed.
 fn dial<R: Clock + Sync + Net<Listener = TcpListener, Stream = TcpStream>>(
     rt: &R,
     number: u16,
@@ -107,7 +110,9 @@ fn dial<R: Clock + Sync + Net<Listener = TcpListener, Stream = TcpStream>>(
     None
 }
 
-/// Writes the bytes on a link, and returns what is read to its end.
+/// Writes the bytes on a link, and returns all that is then read until a read fails or the link
+/// ends, in at most 200,000 reads. Returns no bytes if the write fails. Errs only if memory runs
+/// out.
 fn ask<C: Clock>(alloc: Global, peer: &mut TcpPeer<C>, bytes: &[u8]) -> Result<Text, Oom> {
     let mut heard = List::new(alloc);
     if write_whole(peer, bytes).is_err() {
@@ -123,8 +128,9 @@ fn ask<C: Clock>(alloc: Global, peer: &mut TcpPeer<C>, bytes: &[u8]) -> Result<T
     Ok(heard)
 }
 
-/// Returns what two clients read that are connected at once and ask the same. The second one asks
-/// first.
+/// Connects two clients at once to the port `number` of this machine, has both write the same
+/// bytes, and returns what the second client reads and then what the first reads. The second one
+/// writes and reads before the first. Returns an empty text if a client could not connect.
 fn ask_both<R: Clock + Sync + Net<Listener = TcpListener, Stream = TcpStream>>(
     rt: &R,
     alloc: Global,
@@ -143,7 +149,9 @@ fn ask_both<R: Clock + Sync + Net<Listener = TcpListener, Stream = TcpStream>>(
     Ok(answer)
 }
 
-/// Serves two clients at once, each on a worker of its own.
+/// Serves two clients that are connected at once and write the same bytes, over two threads: one
+/// serves, and one has the clients. Returns what the second and then the first client read, what
+/// the program wrote, and a line with its exit status.
 fn serve_clients<
     R: Clock + Threads + Wait + Sync + Net<Listener = TcpListener, Stream = TcpStream>,
 >(rt: &R, alloc: Global, given: &Given, serving: &Serving, bytes: &[u8]) -> Result<String, Oom>
@@ -162,7 +170,8 @@ fn serve_clients<
     Ok(answer)
 }
 
-/// Returns the arguments to serve with two workers over two connections.
+/// Returns the arguments of the command `serve` with the port `number`, two workers and two
+/// connections, or `None` for port 0.
 fn serving_at(alloc: Global, number: u16) -> Result<Option<Serving>, Oom>
     ensures { IfOk result (λ serving. IfSome serving IsServing) }
 {
@@ -170,12 +179,14 @@ fn serving_at(alloc: Global, number: u16) -> Result<Option<Serving>, Oom>
     serving_in(alloc, words.as_str())
 }
 
-/// Returns what the program writes when it serves a port number that is in use.
+/// Serves a port number of this machine that another door occupies, and returns what the program
+/// wrote and a line with its exit status. Returns the line `no port` if no free number was found to
+/// occupy.
 ///
 /// # Errors
 ///
 /// Out of memory.
-pub fn taken_answer<
+pub fn port_in_use_answer<
     R: Clock + Threads + Wait + Sync + Net<Listener = TcpListener, Stream = TcpStream>,
 >(rt: &R, alloc: Global, given: &Given) -> Result<String, Oom> {
     let Some((number, doors)) = free_port(rt, alloc) else {
@@ -189,7 +200,9 @@ pub fn taken_answer<
     Ok(answer)
 }
 
-/// Returns what two clients read that ask these bytes, and what the program writes.
+/// Serves two clients on a free port of this machine that are connected at once and write `bytes`
+/// each. Returns what the clients read, what the program wrote, and a line with its exit status.
+/// Returns the line `no port` if no free number was found.
 ///
 /// # Errors
 ///

@@ -7,7 +7,7 @@ use crate::serve::gate::HoldingGate;
 use crate::serve::given::{Given, minutes_of};
 use crate::serve::links::{LinkRun, link_answer, run_link, tally_answer};
 use crate::serve::ports::{DoorGiven, Shown, port_answer, serve_doors};
-use crate::serve::real::{clients_answer, taken_answer};
+use crate::serve::real::{clients_answer, port_in_use_answer};
 use crate::serve::sweeps::{sweep_crashes, sweep_ends, sweep_pieces};
 use crate::serve::words::{serving_in, words_answer};
 use hazard_types::{List, Oom, Text};
@@ -19,8 +19,8 @@ use std::thread::Threads;
 use std::time::Clock;
 use worked_lines::{numbers_of, unread};
 
-/// Returns the largest number of bytes that a read of a link returns: that of the word, or any
-/// number if the word is not one.
+/// Returns the number that a word is, as the most bytes that a read of a link returns. For 0 and
+/// for a word that is no number it returns `usize::MAX`, so that all bytes come at once.
 fn piece_of(word: &str) -> usize
     ensures { 1 ≤ result }
 {
@@ -47,6 +47,8 @@ impl<'a, R: Clock + Threads + Wait + Sync + Net<Listener = TcpListener, Stream =
     'a,
     R,
 > {
+    /// Returns a script that has set nothing: no settings, an empty file, no link, no door and no
+    /// fault.
     pub fn new(rt: &'a R, alloc: Global) -> Self {
         Script {
             rt,
@@ -59,27 +61,30 @@ impl<'a, R: Clock + Threads + Wait + Sync + Net<Listener = TcpListener, Stream =
         }
     }
 
-    /// Ends the link that is being written.
+    /// Moves the bytes that were set so far to the door that is being written, as its next link,
+    /// and begins another link without bytes.
     fn end_link(&mut self, alloc: Global) -> Result<(), Oom> {
         let bytes = mem::replace(&mut self.bytes, List::new(alloc));
         self.door.links.push(bytes)
     }
 
-    /// Ends the door that is being written, and its last link.
+    /// Moves the bytes that were set so far to the door that is being written, as its last link,
+    /// and that door to the list of doors, and begins another door without links.
     fn end_door(&mut self, alloc: Global) -> Result<(), Oom> {
         self.end_link(alloc)?;
         let door = mem::replace(&mut self.door, DoorGiven::new(alloc));
         self.doors.push(door)
     }
 
-    /// Appends a line to the settings.
+    /// Appends a line, with a line end, to the text of the office's settings.
     fn add_setting(&mut self, line: &str) -> Result<(), Oom> {
         self.settings.extend(line.as_bytes())?;
         self.settings.push(b'\n')
     }
 
-    /// Sets the readings of the clock, or the calls that fail, and returns whether the words are
-    /// such a line.
+    /// Sets the clock's readings or the calls that fail, and returns whether `word` and `rest` are
+    /// such a line. `word` is `at`, with stamps in `rest`, or `failing` (calls of the disk),
+    /// `broken` (calls of each link) or `accepts` (accepts of the door), with numbers in `rest`.
     fn set_numbers(&mut self, alloc: Global, word: &str, rest: &str) -> Result<bool, Oom> {
         if word == "at" {
             let Some(minutes) = minutes_of(alloc, rest)? else {
@@ -100,7 +105,12 @@ impl<'a, R: Clock + Threads + Wait + Sync + Net<Listener = TcpListener, Stream =
         Ok(true)
     }
 
-    /// Does a line that only sets something, and returns whether the line is one.
+    /// Does a line that sets something for the next run, and returns true: a line of the settings
+    /// (`settings`), the disk's file (`file`), the end of the link (`next`) or of the door
+    /// (`door`), that the gate holds the first call (`hold`), the clock (`at`), the calls that fail
+    /// (`failing`, `broken`, `accepts`), or bytes of the link (`get`, `post`, `head`, `bytes`, and
+    /// `times N` before one of these). Returns false for another word, as that of a run, and if a
+    /// number or stamp of the line cannot be read.
     fn prepare(&mut self, alloc: Global, line: &str) -> Result<bool, Oom> {
         let (word, rest) = line.split_once(' ').unwrap_or((line, ""));
         match word {
@@ -119,7 +129,8 @@ impl<'a, R: Clock + Threads + Wait + Sync + Net<Listener = TcpListener, Stream =
         Ok(true)
     }
 
-    /// Removes what was set for a run.
+    /// Removes what was set for one run: the link, the doors, the faults and the hold. The
+    /// settings, the file and the clock stay.
     fn clear(&mut self, alloc: Global) {
         self.bytes = List::new(alloc);
         self.door = DoorGiven::new(alloc);
@@ -129,7 +140,8 @@ impl<'a, R: Clock + Threads + Wait + Sync + Net<Listener = TcpListener, Stream =
         self.holds = false;
     }
 
-    /// Makes the file the journal of a new office.
+    /// Makes the file the journal of a new office with the settings so far, and returns the line
+    /// `ready`. Returns the line `refused`, and the file is empty, if the office was not created.
     fn make_journal(&mut self, alloc: Global) -> Result<String, Oom> {
         self.given.file = List::new(alloc);
         let made = self.given.make_journal(alloc, self.settings.as_slice())?;
@@ -137,8 +149,10 @@ impl<'a, R: Clock + Threads + Wait + Sync + Net<Listener = TcpListener, Stream =
         Ok(String::from_str(alloc, word)?)
     }
 
-    /// Serves the link, in pieces of at most `piece` bytes, and keeps the file that it leaves.
-    /// Returns `None` if the file is no journal.
+    /// Serves the link that was set, at most `piece` bytes a read, and keeps the file that this
+    /// leaves for the next run. Returns how the link ended and what it left. `None` if no office
+    /// can be opened: the file is no office's journal, or while it is opened a call of the disk
+    /// fails or memory runs out.
     fn serve_link(&mut self, alloc: Global, piece: usize) -> Result<Option<LinkRun>, Oom>
         requires { 1 ≤ piece }
     {
@@ -150,7 +164,10 @@ impl<'a, R: Clock + Threads + Wait + Sync + Net<Listener = TcpListener, Stream =
         Ok(run)
     }
 
-    /// Serves the doors, keeps the file that they leave, and returns what is printed.
+    /// Serves the doors that were set as `line`, a command `serve`, says, and keeps the file that
+    /// this leaves. Returns what is printed: the port numbers, of each link what `shown` selects,
+    /// what the program wrote, its exit status, and `held in vain` if the gate gave up. For a line
+    /// that is no such command it returns the line `unread: LINE`.
     fn serve_doors(&mut self, alloc: Global, line: &str, shown: Shown) -> Result<String, Oom> {
         self.end_door(alloc)?;
         let Some(serving) = serving_in(alloc, line)? else {
@@ -167,7 +184,11 @@ impl<'a, R: Clock + Threads + Wait + Sync + Net<Listener = TcpListener, Stream =
         Ok(answer)
     }
 
-    /// Serves the doors over disks that stop after each call, and returns the counts.
+    /// Serves the doors that were set over disks that stop after each of the first CALLS calls,
+    /// once for each of six states that a crash may leave. Returns the line `crashes COUNT, differ
+    /// COUNT`: the number of runs, and of those after which the file that the crash leaves has
+    /// neither as many requests as were answered as accepted nor one more. `line` is `CALLS WORDS`,
+    /// where WORDS are a command `serve`; for any other line it returns the line `unread: LINE`.
     fn sweep_crashes(&mut self, alloc: Global, line: &str) -> Result<String, Oom> {
         self.end_door(alloc)?;
         let (calls, words) = line.split_once(' ').unwrap_or((line, ""));
@@ -181,7 +202,11 @@ impl<'a, R: Clock + Threads + Wait + Sync + Net<Listener = TcpListener, Stream =
         sweep_crashes(self.rt, alloc, &self.given, doors, &serving, calls)
     }
 
-    /// Returns what is printed for a run.
+    /// Does a line that is a run, and returns what is printed for it: `init` makes the journal,
+    /// `link`, `tally`, `pieces` and `ends` serve the link that was set, `serve`, `count` and
+    /// `crashes` the doors, `taken` and `clients` a port of this machine, and `words` shows what a
+    /// command asks for. Returns the line `unread: LINE` for another word, and if the line has a
+    /// wrong form or no office can be opened.
     fn run(&mut self, alloc: Global, line: &str) -> Result<String, Oom> {
         let (word, rest) = line.split_once(' ').unwrap_or((line, ""));
         match word {
@@ -200,13 +225,15 @@ impl<'a, R: Clock + Threads + Wait + Sync + Net<Listener = TcpListener, Stream =
             "count" => self.serve_doors(alloc, rest, Shown::Counts),
             "crashes" => self.sweep_crashes(alloc, rest),
             "words" => words_answer(alloc, rest),
-            "taken" => taken_answer(self.rt, alloc, &self.given),
+            "taken" => port_in_use_answer(self.rt, alloc, &self.given),
             "clients" => clients_answer(self.rt, alloc, &self.given, self.bytes.as_slice()),
             _ => unread(alloc, line),
         }
     }
 
-    /// Returns what is printed for a line.
+    /// Does a line and returns what is printed for it, nothing for a remark or a line that sets
+    /// something. After any other line the links, the doors and the faults that were set are
+    /// removed.
     ///
     /// # Errors
     ///

@@ -23,14 +23,17 @@ const PICKS: [u64; 6] = [0, 1, 2, 3, 5, 15];
 /// The bytes that the reply to an accepted request has, and no other reply.
 const ACCEPTED: &[u8] = b"\"ok\":";
 
-/// Whether two links were served alike: how they ended, what was written, and the file.
+/// Whether two links were served alike: they ended alike, and what was written on them and the
+/// files of the disks are the same.
 fn are_alike(one: &LinkRun, other: &LinkRun) -> bool {
     one.end == other.end
         && one.written.as_slice() == other.written.as_slice()
         && one.file.as_slice() == other.file.as_slice()
 }
 
-/// Whether the bytes in pieces of at most `piece` are served as all at once.
+/// Whether a link on which `bytes` come, at most `piece` of them a read, is served like `whole`,
+/// the run in which all of them came in one read. Alike are how the link ends, what is written on
+/// it, and the file of the disk. False if the file is no office's journal.
 fn is_served_as<R: Wait>(
     rt: &R,
     alloc: Global,
@@ -47,7 +50,9 @@ fn is_served_as<R: Wait>(
     })
 }
 
-/// Returns the number of sizes of pieces at which the bytes are not served as all at once.
+/// Returns how many sizes of reads, from 1 to the number of bytes, give a run that differs from
+/// `whole`, the run in which all bytes came in one read. A run differs in how the link ends, in
+/// what is written on it, or in the file of the disk.
 fn count_others<R: Wait>(
     rt: &R,
     alloc: Global,
@@ -64,8 +69,10 @@ fn count_others<R: Wait>(
     Ok(differ)
 }
 
-/// Returns a line with the number of sizes of pieces, from 1 to all bytes, and the number of them
-/// at which the bytes are not served as all at once.
+/// Serves a link with these bytes once for each size of a read, from 1 to the number of bytes.
+/// Returns the line `sizes COUNT, differ COUNT`: the number of the sizes, and how many of them give
+/// another end, other answers or another file than a single read of all bytes. The second number is
+/// 0 if the file is no office's journal.
 ///
 /// # Errors
 ///
@@ -84,7 +91,8 @@ pub fn sweep_pieces<R: Wait>(
     Ok(format!(in alloc; "sizes {sizes}, differ {differ}\n")?)
 }
 
-/// Returns how a link with these bytes ends, or `None` if the file is no journal.
+/// Returns how a link ends on which `bytes` come in one read, or `None` if the file that `given`
+/// sets is no office's journal.
 fn end_of<R: Wait>(
     rt: &R,
     alloc: Global,
@@ -97,8 +105,9 @@ fn end_of<R: Wait>(
     }
 }
 
-/// Returns a line for each number of first bytes, from 0, with which the link ends otherwise than
-/// with one fewer.
+/// Serves a link with the first 0, 1, .. up to all of the bytes. Returns a line `from COUNT END`
+/// for 0 bytes, and for each number of bytes with which the link ends otherwise than with one byte
+/// fewer. Returns an empty text if the file is no office's journal.
 ///
 /// # Errors
 ///
@@ -124,8 +133,8 @@ pub fn sweep_ends<R: Wait>(
     Ok(answer)
 }
 
-/// Returns the number of accepted requests by the replies on a port's links, if none was sent
-/// twice.
+/// Returns the number of accepted requests, by the replies that were written on a port's links. A
+/// request that was sent twice counts twice.
 fn accepted_on(port: &MemPort) -> u64 {
     let mut count = 0u64;
     for links in port.links() {
@@ -137,8 +146,9 @@ fn accepted_on(port: &MemPort) -> u64 {
     count
 }
 
-/// Whether a crash leaves each request that was answered as accepted, and at most one more.
-fn is_left(alloc: Global, run: &PortRun) -> Result<bool, Oom> {
+/// Whether the file that a crash leaves after a run has as many requests as were answered as
+/// accepted, or one more. False if the file is no office's journal.
+fn crash_leaves_accepted(alloc: Global, run: &PortRun) -> Result<bool, Oom> {
     let Some(left) = requests_of(alloc, run.ran.left.as_slice())? else {
         return Ok(false);
     };
@@ -146,9 +156,9 @@ fn is_left(alloc: Global, run: &PortRun) -> Result<bool, Oom> {
     Ok(accepted <= left && left <= accepted.saturating_add(1))
 }
 
-/// Serves the doors, and returns whether a crash then leaves each request that was answered as
-/// accepted, and at most one more.
-fn is_kept<R: Threads + Wait + Sync>(
+/// Serves the doors, and returns whether the file that a crash then leaves has as many requests as
+/// were answered as accepted, or one more.
+fn serving_survives_crash<R: Threads + Wait + Sync>(
     rt: &R,
     alloc: Global,
     given: &Given,
@@ -159,12 +169,13 @@ fn is_kept<R: Threads + Wait + Sync>(
 {
     let gate = HoldingGate::new(false);
     let run = serve_doors(rt, alloc, given, doors, serving, &gate)?;
-    is_left(alloc, &run)
+    crash_leaves_accepted(alloc, &run)
 }
 
-/// Serves the doors over disks that stop after each of the first `calls` calls, for each state that
-/// a crash may leave. Returns a line with the number of runs, and the number of them in which the
-/// crash leaves a wrong number of requests.
+/// Serves the doors over disks that stop after each of the first `calls` calls, once for each of
+/// six states that a crash may leave. Returns the line `crashes COUNT, differ COUNT`: the number of
+/// runs, and how many are wrong. A run is right if the file that the crash leaves has as many
+/// requests as were answered as accepted, or one more.
 ///
 /// # Errors
 ///
@@ -185,7 +196,7 @@ pub fn sweep_crashes<R: Threads + Wait + Sync>(
         for pick in PICKS {
             let stopping = given.stopping(call, pick)?;
             runs = runs.saturating_add(1);
-            if !is_kept(rt, alloc, &stopping, doors, serving)? {
+            if !serving_survives_crash(rt, alloc, &stopping, doors, serving)? {
                 differ = differ.saturating_add(1);
             }
         }

@@ -7,7 +7,8 @@ use serve_command::{Serving, parse_serve_args};
 use std::alloc::Global;
 use worked_lines::words_of;
 
-/// Returns what the words of a line ask to serve, or `None` if they are no such command.
+/// Returns the port, workers and connections that a line, a command `serve` with its options, asks
+/// for, or `None` if the words are no such command.
 ///
 /// # Errors
 ///
@@ -19,7 +20,8 @@ pub fn serving_in(alloc: Global, line: &str) -> Result<Option<Serving>, Oom>
     Ok(parse_serve_args(&words))
 }
 
-/// Returns the port, workers and connections of the words of a line, or `Usage`.
+/// Returns the line `port PORT, workers COUNT, connections COUNT` of what `line`, a command
+/// `serve`, asks for. Returns the line `Usage` if its words are no such command.
 ///
 /// # Errors
 ///

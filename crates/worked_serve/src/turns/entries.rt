@@ -21,6 +21,7 @@ pub struct Entries {
 }
 
 impl Entries {
+    /// Returns an empty list of entries.
     pub fn new(alloc: Global) -> Self
         ensures { result.items.items ≡ [] }
     {
@@ -29,7 +30,7 @@ impl Entries {
         }
     }
 
-    /// Adds an entry.
+    /// Appends an entry to the list.
     ///
     /// # Errors
     ///

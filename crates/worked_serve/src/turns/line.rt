@@ -10,8 +10,8 @@ use std::sync::Wait;
 use std::thread::Threads;
 use std::time::{Clock, Duration};
 
-/// Returns how many threads wait, and how long another one has the turn, or `None` if the words are
-/// not `COUNT MILLISECONDS`, with at most `MOST_WAITING` threads.
+/// Returns the COUNT of threads that wait and how long another thread has the turn, which a line
+/// `COUNT MILLISECONDS` says. `None` if the line has another form, or COUNT is above 1,000.
 fn read(line: &str) -> Option<(u32, Duration)>
     ensures { IfSome result (λ said. said.0 ≤ MOST_WAITING) }
 {
@@ -24,8 +24,8 @@ fn read(line: &str) -> Option<(u32, Duration)>
     Some((waiting, Duration::from_millis(time)))
 }
 
-/// Returns the number of entries after that of the thread that had the first turn; 0 if the first
-/// entry is another one.
+/// Returns the number of entries after the first, if the first is that of the thread that had the
+/// first turn, else 0. `entries` are in the order of the turns.
 fn count_waited(entries: &[Entry]) -> usize {
     match entries {
         [Entry::Held, waited @ ..] => waited.len(),
@@ -33,7 +33,9 @@ fn count_waited(entries: &[Entry]) -> usize {
     }
 }
 
-/// Returns what is printed for a line.
+/// Lets threads take turns as the line `COUNT MILLISECONDS` asks, and two threads add numbers to
+/// one list. Returns two lines: how many threads waited and how many entries there are, and how
+/// many numbers and whether they are in order. For other words it returns the line `unread: LINE`.
 ///
 /// # Errors
 ///

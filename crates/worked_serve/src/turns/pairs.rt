@@ -55,7 +55,9 @@ impl Job<Numbers> for Push {
     }
 }
 
-/// Adds the numbers, each in a turn of its own, and returns the pass, or `None` if memory runs out.
+/// Adds the numbers, in order and each in a turn of its own, to the list in `lock`, and returns the
+/// pass, or `None` if memory runs out. `pass`, which gives the right to turns, is of this lock, and
+/// nothing was added with it yet.
 fn add_each<R: Wait>(
     rt: &R,
     lock: &TurnLock<Numbers>,
@@ -78,7 +80,8 @@ fn add_each<R: Wait>(
     Some(pass)
 }
 
-/// Returns the list to which two threads add, each its own numbers, or `None` if memory runs out.
+/// Returns the list, with label 7, to which two threads have added, one the numbers `ours`, the
+/// other the numbers `theirs`, each in its order. `None` if memory runs out.
 fn add_side_by_side<R: Threads + Wait + Sync>(
     rt: &R,
     alloc: Global,
@@ -118,7 +121,8 @@ fn add_side_by_side<R: Threads + Wait + Sync>(
     Some(whole.close(ours_pass))
 }
 
-/// Returns the place after this one if the number is at it, else 1000.
+/// Returns `place` + 1 if `number` is the one at `place`, from 0, of `numbers`. Otherwise it
+/// returns 1000, which is to be a place past their end.
 fn behind(numbers: &[u64], place: usize, number: u64) -> usize {
     match numbers.get(place) {
         Some(next) => {
@@ -132,8 +136,8 @@ fn behind(numbers: &[u64], place: usize, number: u64) -> usize {
     }
 }
 
-/// Whether the numbers are those of both threads, each thread's in its order. Ours are at most 100,
-/// theirs are greater.
+/// Whether the numbers up to 100 among `numbers` are exactly `ours`, in the same order, and those
+/// above 100 exactly `theirs`. `ours` and `theirs` have fewer than 1000 numbers.
 fn are_in_order(numbers: &[u64], ours: &[u64], theirs: &[u64]) -> bool {
     let mut our_place = 0;
     let mut their_place = 0;
@@ -147,8 +151,8 @@ fn are_in_order(numbers: &[u64], ours: &[u64], theirs: &[u64]) -> bool {
     our_place == ours.len() && their_place == theirs.len()
 }
 
-/// Returns how many numbers two threads add to one list, a hundred each, and whether each thread's
-/// are in its order.
+/// Returns how many numbers are in a list to which two threads have added a hundred each, and
+/// whether each thread's numbers are all there and in the order in which it added them.
 ///
 /// # Errors
 ///

@@ -1,5 +1,5 @@
 //! The threads: one has the turn, and the others wait for theirs.
-ghost use Rattle.std.specs.Prelude.{◌≡◌, ◌+◌, ◌<◌, ◌≤◌, [], length, vec_len, IfOk};
+ghost use Rattle.std.specs.Prelude.{◌≡◌, ◌+◌, ◌<◌, ◌≤◌, vec_len, IfOk};
 ghost use Rattle.std.specs.Thread.{IsSync};
 ghost use Rattle.worked_serve.specs.Turns.{Adds};
 
@@ -15,7 +15,9 @@ use turn_lock::{Pass, TurnLock};
 /// The largest number of threads that wait. A whole pass has more shares.
 pub const MOST_WAITING: u32 = 1000;
 
-/// Has the turn for `time`, and adds an entry.
+/// Takes a turn at the list in `lock` that lasts `time`, adds the entry `Held` in it, and returns
+/// the pass. At the beginning of the turn it lets the thread that is parked on `begun` go on.
+/// `pass`, which gives the right to turns, must be of this lock.
 fn hold<R: Wait + Clock>(
     rt: &R,
     lock: &TurnLock<Entries>,
@@ -30,7 +32,8 @@ fn hold<R: Wait + Clock>(
     Ok(pass)
 }
 
-/// Waits for a turn, and adds an entry.
+/// Waits for a turn at the list in `lock`, adds the entry `Waited` in it, and returns the pass.
+/// `pass`, which gives the right to turns, must be of this lock.
 fn wait<R: Wait>(
     rt: &R,
     lock: &TurnLock<Entries>,
@@ -43,7 +46,9 @@ fn wait<R: Wait>(
     Ok(pass)
 }
 
-/// Runs `waiting` threads that each wait for a turn, with a share of the pass each.
+/// Runs `waiting` threads that each wait for a turn at the list in `lock` and add an entry, and
+/// returns the pass, which has seen what all added. `pass`, which gives the right to turns, is of
+/// this lock, and must have more shares than there are threads, of which each gets one.
 fn wait_each<R: Threads + Wait + Sync>(
     rt: &R,
     lock: &TurnLock<Entries>,
@@ -75,8 +80,8 @@ fn wait_each<R: Threads + Wait + Sync>(
     Ok(whole)
 }
 
-/// Returns the entries of `waiting` threads, which wait while another one has the turn for `time`,
-/// and of that one.
+/// Returns the entries, in the order of the turns, of one thread that has the turn for `time`, and
+/// of `waiting` threads, at most 1,000, that wait for their turns meanwhile.
 ///
 /// # Errors
 ///

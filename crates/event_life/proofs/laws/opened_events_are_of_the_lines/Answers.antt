@@ -1,4 +1,4 @@
-use Rattle.event_life.proofs.OnceLemmas.{opened_by-up}
+use Rattle.event_life.proofs.OnceLemmas.{events_opened_by-up}
 use Rattle.event_life.proofs.OpenedLemmas.{opened_alike, opened_members, opened_lawful}
 use Rattle.event_life.proofs.laws.opened_events_are_of_the_lines.Goals as goal
 
@@ -6,7 +6,7 @@ pub returns-clause-alike : goal.returns-clause-alike
 returns-clause-alike c = opened_alike
 
 pub returns-clause-order : goal.returns-clause-order
-returns-clause-order c = opened_by-up
+returns-clause-order c = events_opened_by-up
 
 pub returns-clause-members : goal.returns-clause-members
 returns-clause-members c = opened_members

@@ -21,7 +21,7 @@ loop-buffer-init g c = record {
 pub returns-in-Err-clause-read : goal.returns-in-Err-clause-read
 returns-in-Err-clause-read g c =
     let old = c.loop-buffer.invariant in
-    head_stops (g.L.Link.state c.args.link.now).input.left (g.L.Link.state c.loop-buffer.link).input.left (g.L.Link.state c.read_on.new.link).input.left c.loop-buffer.bytes c.read_on.new.bytes c.in-Err.miss
+    head_stops (g.L.Link.state c.args.link.now).input.left (g.L.Link.state c.loop-buffer.link).input.left (g.L.Link.state c.read_head_part.new.link).input.left c.loop-buffer.bytes c.read_head_part.new.bytes c.in-Err.miss
     old.takes (old.headless, omega arith, old.may) c.in-Err.ensures.read
 
 pub returns-clause-read : goal.returns-clause-read

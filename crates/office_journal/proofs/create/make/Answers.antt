@@ -28,7 +28,7 @@ returns-in-Ok-first_journal-clause-any_moment g c bytes told =
     λ new second. both d.crash m.are_crashes c.args.disk c.in-Ok-first_journal.journal.disk new (λ x. (d.crash c.args.disk).may_leave x ⊎ IsMaking file x) Q first
     (weaker d.crash m.are_crashes c.in-Ok-first_journal.journal.disk new (IsOneOf (file ∷ []) None mark) Q (λ x one. inr (while_marked file c.args.settings c.requires.read x one)) second)
     (λ x made. ⊎_elim (λ was. inl was) (λ making. inr (while_made file c.args.settings c.requires.read x making)) made) in
-    each_way c.go_over.result _ _ _ _ (λ kept second. step (disk_of kept) second) (λ e second. step e.0 second) (c.go_over.ensures.any_moment (file ∷ []) keeps)
+    each_way c.append_edition_mark.result _ _ _ _ (λ kept second. step (disk_of kept) second) (λ e second. step e.0 second) (c.append_edition_mark.ensures.any_moment (file ∷ []) keeps)
 
 pub returns-in-Err-clause-any_moment : goal.returns-in-Err-clause-any_moment
 returns-in-Err-clause-any_moment g c bytes told =

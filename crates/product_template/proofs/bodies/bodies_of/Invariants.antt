@@ -5,4 +5,4 @@ use Rattle.product_template.proofs.bodies.bodies_of.Given as goal
 -- the bodies of what is left follow
 abbrev pub invariant-loop-segment : goal.invariant-loop-segment
 invariant-loop-segment l =
-    map (body_of l.settings l.making.class l.texts l.making.t l.making.edition) l.segments ≡ l.bodies ++ map (body_of l.settings l.making.class l.texts l.making.t l.making.edition) (drop l.segment-index l.segments)
+    map (body_of l.settings l.class l.texts l.t l.edition) l.segments ≡ l.bodies ++ map (body_of l.settings l.class l.texts l.t l.edition) (drop l.segment-index l.segments)

@@ -18,7 +18,7 @@ returns c = λ stamp products kept.
     let second : List ℕ = flat_map (zone_told k) (keys_of k.zones) in
     let end : List ℕ = total_text k.all.openings k.all.minutes ++ faults_text tally.faults in
     let zones = ap (λ (zs : List (Place × Sums)). flat_map (zone_told k) (keys_of zs)) (c.as_slice.ensures ∙ c.in_ok-zones.ensures.value) in
-    c.in_ok-put_end.ensures
-    ∙ ap (λ (t : List ℕ). t ++ end) (c.in_ok-put_zones.ensures ∙ (λ i. c.in_ok-put_hazards.ensures i ++ zones i) ∙ ap (λ (t : List ℕ). (t ++ first) ++ second) c.new-out.ensures)
+    c.in_ok-write_end.ensures
+    ∙ ap (λ (t : List ℕ). t ++ end) (c.in_ok-write_zones.ensures ∙ (λ i. c.in_ok-write_hazards.ensures i ++ zones i) ∙ ap (λ (t : List ℕ). (t ++ first) ++ second) c.new-out.ensures)
     ∙ append_assoc first second end
     ∙ text_told stamp products k kept.es kept.counted kept.summed kept.keyed events c.in_ok-events.ensures tally.faults

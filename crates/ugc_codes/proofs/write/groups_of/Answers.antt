@@ -7,6 +7,6 @@ pub loop-zone-preserved : goal.loop-zone-preserved
 loop-zone-preserved c = record {
   range = search rules;
   ends = search rules;
-  places = places_more _ c.loop-zone.zone-index c.zone-item.result c.loop-zone-test.true c.zone-item.is c.goes_on.ensures.place c.loop-zone.invariant.places;
+  places = places_more _ c.loop-zone.zone-index c.zone-item.result c.loop-zone-test.true c.zone-item.is c.continues_span.ensures.place c.loop-zone.invariant.places;
   whole = grind (arith, common_steps);
 }

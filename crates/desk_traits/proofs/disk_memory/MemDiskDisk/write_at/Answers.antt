@@ -11,16 +11,16 @@ items_same : {old new : Vec DiskCall Global} → new ≡ old → new.items ≡ o
 items_same same = ap (λ (v : Vec DiskCall Global). v.items) same
 
 pub invariant_of-self : goal.invariant_of-self
-invariant_of-self c = record { kept = kept_failed c.called.new.self.first c.called.new.self.file c.called.new.self.calls.items c.note_failed-noted.new.calls.items c.args.at c.args.bytes.now c.note_failed-noted.result c.called.new.self.kept c.note_failed-noted.ensures }
+invariant_of-self c = record { kept = kept_failed c.called.new.self.first c.called.new.self.file c.called.new.self.calls.items c.record_failed_write-noted.new.calls.items c.args.at c.args.bytes.now c.record_failed_write-noted.result c.called.new.self.kept c.record_failed_write-noted.ensures }
 
 pub returns-then-called-clause-crash : goal.returns-then-called-clause-crash
 returns-then-called-clause-crash c =
-    goes_failed c.args.self.now.first c.failed.new.self.first c.args.self.now.calls.items c.called.new.self.calls.items c.failed.new.self.calls.items c.args.at c.args.bytes.now c.note_failed-noted.result
-    (c.failed.ensures.first ∙ c.called.ensures.first) (items_same c.called.ensures.calls) (items_same c.failed.ensures.calls ∙ c.note_failed-noted.ensures)
+    goes_failed c.args.self.now.first c.failed.new.self.first c.args.self.now.calls.items c.called.new.self.calls.items c.failed.new.self.calls.items c.args.at c.args.bytes.now c.record_failed_write-noted.result
+    (c.failed.ensures.first ∙ c.called.ensures.first) (items_same c.called.ensures.calls) (items_same c.failed.ensures.calls ∙ c.record_failed_write-noted.ensures)
 
 pub returns-then-called-clause-syncs : goal.returns-then-called-clause-syncs
 returns-then-called-clause-syncs c =
-    synced_failed c.args.self.now.calls.items c.called.new.self.calls.items c.failed.new.self.calls.items c.args.at c.args.bytes.now c.note_failed-noted.result (items_same c.called.ensures.calls) (items_same c.failed.ensures.calls ∙ c.note_failed-noted.ensures)
+    synced_failed c.args.self.now.calls.items c.called.new.self.calls.items c.failed.new.self.calls.items c.args.at c.args.bytes.now c.record_failed_write-noted.result (items_same c.called.ensures.calls) (items_same c.failed.ensures.calls ∙ c.record_failed_write-noted.ensures)
 
 pub invariant_of-self-2 : goal.invariant_of-self-2
 invariant_of-self-2 c =

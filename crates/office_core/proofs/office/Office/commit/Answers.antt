@@ -27,18 +27,18 @@ may : (c : After-record_request) → MayCommit (office c) (prepared c)
 may c = subst (λ (o : OfficeView). MayCommit o (prepared c)) (sym c.self.view_is) (subst (λ (q : Readied). MayCommit c.args.self.now q) (sym c.p.view_is) c.requires)
 
 abbrev now : After-record_request → State
-now c = record { settings = c.self.inside.settings; class = c.self.inside.class; edition = c.self.inside.edition; rows = c.take_made.new.board.rows; products = c.take_made.new.products.items; drafts = c.change_drafts.new.drafts.items; begun = c.begun_with-self-inside.result; heard = c.record_request.new.heard.items; last = c.p.inside.entry.minute }
+now c = record { settings = c.self.inside.settings; class = c.self.inside.class; edition = c.self.inside.edition; rows = c.add_made_product.new.board.rows; products = c.add_made_product.new.products.items; drafts = c.change_drafts.new.drafts.items; begun = c.begun_with-self-inside.result; heard = c.record_request.new.heard.items; last = c.p.inside.entry.minute }
 
 after : (c : After-record_request) → now c ≡ state_after (before c) (prepared c).entry (prepared c).made
 after c =
-    fields_after (before c) (prepared c) c.take_made.new.board.rows c.take_made.new.products.items c.change_drafts.new.drafts.items c.begun_with-self-inside.result c.record_request.new.heard.items
-    c.take_made.ensures.rows c.take_made.ensures.products c.change_drafts.ensures.drafts c.begun_with-self-inside.ensures c.record_request.ensures (may c).drafts
+    fields_after (before c) (prepared c) c.add_made_product.new.board.rows c.add_made_product.new.products.items c.change_drafts.new.drafts.items c.begun_with-self-inside.result c.record_request.new.heard.items
+    c.add_made_product.ensures.rows c.add_made_product.ensures.products c.change_drafts.ensures.drafts c.begun_with-self-inside.ensures c.record_request.ensures (may c).drafts
 
-sound : (c : After-record_request) → IsSound (now c) c.take_made.new.numbers.counts
-sound c = subst (λ (s : State). IsSound s c.take_made.new.numbers.counts) (sym (after c)) ((may c).sound c.take_made.new.numbers.counts c.take_made.ensures.numbers)
+sound : (c : After-record_request) → IsSound (now c) c.add_made_product.new.numbers.counts
+sound c = subst (λ (s : State). IsSound s c.add_made_product.new.numbers.counts) (sym (after c)) ((may c).sound c.add_made_product.new.numbers.counts c.add_made_product.ensures.numbers)
 
-agrees : (c : After-record_request) → Agrees (now c) c.take_made.new.numbers.counts
-agrees c = subst (λ (s : State). Agrees s c.take_made.new.numbers.counts) (sym (after c)) ((may c).agrees c.take_made.new.numbers.counts c.take_made.ensures.numbers)
+agrees : (c : After-record_request) → Agrees (now c) c.add_made_product.new.numbers.counts
+agrees c = subst (λ (s : State). Agrees s c.add_made_product.new.numbers.counts) (sym (after c)) ((may c).agrees c.add_made_product.new.numbers.counts c.add_made_product.ensures.numbers)
 
 abbrev said : After-record_request → LastRequest
 said c = record { seq = c.p.inside.entry.seq; request = c.p.inside.entry.request; reply = c.p.inside.entry.reply }

@@ -3,7 +3,7 @@ use Rattle.row_index.proofs.EventRows.{rows-emptied}
 use Rattle.std.proofs.Common.{◌∙◌, List, ap, subst, sym}
 use Rattle.hazard_types.specs.declared.line.Row.{Row}
 use Rattle.row_index.specs.Runs.{rows_along}
-use Rattle.row_index.specs.Steps.{put_each}
+use Rattle.row_index.specs.Steps.{add_each}
 use Rattle.row_index.specs.Zoning.{AreOf}
 use Rattle.row_index.proofs.held.EventRows.put.Goals as goal
 
@@ -17,4 +17,4 @@ pub invariant_of-self-in-Err : goal.invariant_of-self-in-Err
 invariant_of-self-in-Err c = rows-emptied c.clear.new.self c.clear-in-Err.new.self.entries c.clear.ensures c.clear-in-Err.ensures.empty
 
 pub returns-in-Ok : goal.returns-in-Ok
-returns-in-Ok c = c.in-Ok.ensures.rows ∙ ap (put_each (rows_along c.args.event.now c.args.life.now c.args.zones.now)) c.self.view_is
+returns-in-Ok c = c.in-Ok.ensures.rows ∙ ap (add_each (rows_along c.args.event.now c.args.life.now c.args.zones.now)) c.self.view_is

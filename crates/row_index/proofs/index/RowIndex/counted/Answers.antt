@@ -18,8 +18,8 @@ loop-line-preserved c =
     let next = seats_of c.mark_seen.new.self.rising.items c.mark_seen.new.self.others.keys in
     let second = c.in_ok-second.ensures.second ∙ second_told before (take i lines) line c.loop-line.invariant.spoken in
     record {
-      rows = counted_next c.args.self.now c.args.t lines (values_of c.loop-line.counted.entries) (values_of c.count_row.new.seated.entries) (rows_after_all_but_upgrades c.args.self.now c.args.t [] lines []) i line c.in_ok-second.second c.may_count-lawful.result c.row_after.result c.loop-line-test.true c.line-item.is second c.may_count-lawful.ensures c.row_after.ensures (c.in_ok-count_row.ensures.rows ∙ ap (λ (b : Bool). cond b (put c.row_after.result (values_of c.loop-line.counted.entries)) (values_of c.loop-line.counted.entries)) c.is_counted.ensures) c.loop-line.invariant.rows;
-      seated = c.in_ok-count_row.ensures.seated;
+      rows = counted_next c.args.self.now c.args.t lines (values_of c.loop-line.counted.entries) (values_of c.add_seated_if.new.seated.entries) (rows_after_all_but_upgrades c.args.self.now c.args.t [] lines []) i line c.in_ok-second.second c.may_be_higher-lawful.result c.row_after.result c.loop-line-test.true c.line-item.is second c.may_be_higher-lawful.ensures c.row_after.ensures (c.in_ok-add_seated_if.ensures.rows ∙ ap (λ (b : Bool). cond b (put c.row_after.result (values_of c.loop-line.counted.entries)) (values_of c.loop-line.counted.entries)) c.is_counted.ensures) c.loop-line.invariant.rows;
+      seated = c.in_ok-add_seated_if.ensures.seated;
       free = c.in_ok-second.ensures.free;
       spoken = told_next speaks before next lines i line _ c.loop-line-test.true c.line-item.is (search rules) c.in_ok-second.ensures.said c.loop-line.invariant.spoken;
     }

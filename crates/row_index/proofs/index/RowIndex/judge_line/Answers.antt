@@ -30,9 +30,9 @@ loop-run-preserved c =
     let run = c.in-Some.run' in
     let rest_is = c.in-Some.ensures.steps.0 in
     record {
-      zones = zones_left (zones_of c.args.runs.items) rest more c.loop-run.out.items c.put_verdicts.new.out.items run rest_is c.in_ok-put_verdicts.ensures.zones c.loop-run.invariant.zones;
-      judged = λ all lines judged serves. line_next c.args.self.now c.args.t all c.args.changed.now c.args.line.now lines rest more c.loop-run.out.items c.put_verdicts.new.out.items run rest_is
-          (c.in_ok-put_verdicts.ensures.judged all) (c.loop-run.invariant.judged all lines judged serves);
+      zones = zones_left (zones_of c.args.runs.items) rest more c.loop-run.out.items c.add_verdicts.new.out.items run rest_is c.in_ok-add_verdicts.ensures.zones c.loop-run.invariant.zones;
+      judged = λ all lines judged serves. line_next c.args.self.now c.args.t all c.args.changed.now c.args.line.now lines rest more c.loop-run.out.items c.add_verdicts.new.out.items run rest_is
+          (c.in_ok-add_verdicts.ensures.judged all) (c.loop-run.invariant.judged all lines judged serves);
     }
 
 pub returns-clause-zones : goal.returns-clause-zones

@@ -11,4 +11,4 @@ pub returns : goal.returns
 returns c =
     let rows = c.args.self in
     let up : IsStrictlySortedBy by_key rows = subst (λ (all : List Row). IsStrictlySortedBy by_key all) c.self.view_is (told-sorted c.self.inside.held.entries) in
-    subst (λ (after : List Row). IfOk c.put_runs.result (λ index. index ≡ after)) (runs_left rows c.args.t c.args.runs.now rows up c.requires.found c.requires.apart) c.put_runs.ensures
+    subst (λ (after : List Row). IfOk c.add_runs.result (λ index. index ≡ after)) (runs_left rows c.args.t c.args.runs.now rows up c.requires.found c.requires.apart) c.add_runs.ensures

@@ -15,12 +15,12 @@ pub returns-clause-set : goal.returns-clause-set
 returns-clause-set c =
     let e = c.args.event.now in
     let own = subst (λ (es : List (Place × Row)). AreOf e (values_of es)) (sym c.self.view_is) c.requires in
-    on_ok_weaker c.put_each.result
+    on_ok_weaker c.add_each.result
     (λ is. ap (λ (lives : List (Place × Life)). rows_with e lives) is
     ∙ ap (λ (lives : List (Place × Life)). rows_with e (lives_put c.args.life.now c.args.zones.now lives)) c.compact.ensures
     ∙ runs-put c.self.inside.event e c.args.life.now c.args.zones.now c.self.inside.lives c.self.invariant own
     ∙ ap (λ (es : List (Place × Row)). rows_put e c.args.life.now c.args.zones.now es) c.self.view_is)
-    c.put_each.ensures.set
+    c.add_each.ensures.set
 
 pub returns-clause-before : goal.returns-clause-before
 returns-clause-before c =
@@ -28,10 +28,10 @@ returns-clause-before c =
     let zones = c.args.zones.now in
     let life = c.args.life.now in
     let own = subst (λ (es : List (Place × Row)). AreOf e (values_of es)) (sym c.self.view_is) c.requires in
-    IfOk-weaker c.put_each.result
-    (λ befores. (p : Life → Bool) → IsTallied p (values_of c.compact.new.self) (values_of c.put_each.new.self) befores.items (length zones) life)
-    (λ befores. (p : Life → Bool) → AreTallied p (values_of c.args.self.now) (values_of (rows_with e c.put_each.new.self)) befores.items (length zones) life)
-    (λ befores told p. subst (λ (es : List (Place × Row)). AreTallied p (values_of es) (values_of (rows_with e c.put_each.new.self)) befores.items (length zones) life) c.self.view_is
-    (rows-tallied c.self.inside.event e c.self.inside.lives c.put_each.new.self befores.items (length zones) life p c.self.invariant own
-    (subst (λ (lives : List (Place × Life)). IsTallied p (values_of lives) (values_of c.put_each.new.self) befores.items (length zones) life) c.compact.ensures (told p))))
-    c.put_each.ensures.before
+    IfOk-weaker c.add_each.result
+    (λ befores. (p : Life → Bool) → IsTallied p (values_of c.compact.new.self) (values_of c.add_each.new.self) befores.items (length zones) life)
+    (λ befores. (p : Life → Bool) → AreTallied p (values_of c.args.self.now) (values_of (rows_with e c.add_each.new.self)) befores.items (length zones) life)
+    (λ befores told p. subst (λ (es : List (Place × Row)). AreTallied p (values_of es) (values_of (rows_with e c.add_each.new.self)) befores.items (length zones) life) c.self.view_is
+    (rows-tallied c.self.inside.event e c.self.inside.lives c.add_each.new.self befores.items (length zones) life p c.self.invariant own
+    (subst (λ (lives : List (Place × Life)). IsTallied p (values_of lives) (values_of c.add_each.new.self) befores.items (length zones) life) c.compact.ensures (told p))))
+    c.add_each.ensures.before

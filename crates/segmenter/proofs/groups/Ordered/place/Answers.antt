@@ -8,5 +8,5 @@ use Rattle.segmenter.proofs.groups.Ordered.place.Goals as goal
 
 pub invariant_of-self-2 : goal.invariant_of-self-2
 invariant_of-self-2 c =
-    let told = subst (λ (lines : List SegLine). insert lines c.place_of-place.result c.args.line.now ≡ placed c.args.line.now lines) c.deref.ensures.value c.place_of-place.ensures.placed in
+    let told = subst (λ (lines : List SegLine). insert lines c.insertion_index-place.result c.args.line.now ≡ placed c.args.line.now lines) c.deref.ensures.value c.insertion_index-place.ensures.placed in
     subst AreInOrder (sym (c.in_ok-insert.ensures.items ∙ told)) (order_placed c.args.line.now c.self.inside.lines.items c.self.invariant)

@@ -51,8 +51,8 @@ returns-clause-gathered g c =
     let steady : (port c.share_out-hired.new.port).faults ≤ first.faults = omega (arith, same, c.share_out-hired.ensures.steady) in
     let count : vec_len c.into_vec-doors.result ≡ c.args.workers = search rules in (
       given,
-      gathered_short (AnswersCall (g.C.Clock.gives c.args.self.now.clock.now)) (LosesCall (g.C.Clock.gives c.args.self.now.clock.now)) given (total_of given) c.share_out-hired.result.1 c.args.connections first (port c.share_out-hired.new.port) (port c.serve_shares-end.new.port) c.args.pass.now c.share_out-hired.new.pass c.serve_shares-end.new.pass c.serve_shares-end.result c.short_of.result
-          c.serve_shares-end.ensures.gathered c.share_out-hired.ensures.kept back steady c.share_out-hired.ensures.total c.short_of.ensures,
-      shared_out c.args.workers c.args.connections c.share_out-hired.result.1 given c.serve_shares-end.result c.short_of.result c.share_out-hired.ensures.total
-          (subst (λ (n : ℕ). c.share_out-hired.result.1 ≡ 0 → with_links given ≡ with_links (shares_of n c.args.connections)) count c.share_out-hired.ensures.even) c.short_of.ensures,
+      gathered_short (AnswersCall (g.C.Clock.gives c.args.self.now.clock.now)) (LosesCall (g.C.Clock.gives c.args.self.now.clock.now)) given (total_of given) c.share_out-hired.result.1 c.args.connections first (port c.share_out-hired.new.port) (port c.serve_shares-end.new.port) c.args.pass.now c.share_out-hired.new.pass c.serve_shares-end.new.pass c.serve_shares-end.result c.end_with_losses.result
+          c.serve_shares-end.ensures.gathered c.share_out-hired.ensures.kept back steady c.share_out-hired.ensures.total c.end_with_losses.ensures,
+      shared_out c.args.workers c.args.connections c.share_out-hired.result.1 given c.serve_shares-end.result c.end_with_losses.result c.share_out-hired.ensures.total
+          (subst (λ (n : ℕ). c.share_out-hired.result.1 ≡ 0 → with_links given ≡ with_links (shares_of n c.args.connections)) count c.share_out-hired.ensures.even) c.end_with_losses.ensures,
     )

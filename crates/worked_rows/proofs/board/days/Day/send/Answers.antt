@@ -17,7 +17,25 @@ use Rattle.action_planner.specs.Placed.{placed, opened}
 use Rattle.action_planner.specs.Standing.{Stands}
 use Rattle.worked_rows.specs.Days.{Standing}
 use Rattle.worked_rows.proofs.DayLemmas.{may_plan, one_more}
+use Rattle.worked_rows.proofs.SegmentLemmas.{can_be_written}
 use Rattle.worked_rows.proofs.board.days.Day.send.Goals as goal
+
+pub plan-requires : goal.plan-requires
+plan-requires c =
+    let stands : Stands c.self.inside.board.rows c.self.inside.numbers.counts c.args.t =
+    c.standing_conditions_persist.ensures c.self.inside.board.rows c.self.inside.numbers.counts c.self.inside.last c.args.t (rw (ap (λ (d : Standing). d.last) c.self.view_is) c.requires.later) c.self.invariant.0 in
+    may_plan c.self.inside.board.rows c.self.inside.numbers.counts c.args.draft.now.category c.args.draft.now.intents _ c.args.t c.requires stands
+
+pub returns-clause-written : goal.returns-clause-written
+returns-clause-written c =
+    let rows = c.self.inside.board.rows in
+    let counts = c.self.inside.numbers.counts in
+    let stands : Stands c.self.inside.board.rows c.self.inside.numbers.counts c.args.t =
+    c.standing_conditions_persist.ensures c.self.inside.board.rows c.self.inside.numbers.counts c.self.inside.last c.args.t (rw (ap (λ (d : Standing). d.last) c.self.view_is) c.requires.later) c.self.invariant.0 in
+    let can : CanPlan rows counts c.args.draft.now.category c.args.draft.now.intents c.args.t = may_plan rows counts c.args.draft.now.category c.args.draft.now.intents _ c.args.t c.requires stands in
+    let lines = planned_lines c.args.draft.now.category rows c.args.t (placed counts c.args.t c.args.draft.now.intents) in
+    can_be_written lines c.in_ok-plan.plan.segments c.in_ok-plan.ensures.plan.segments
+    (c.lines_have_four_digits.ensures.planned c.args.draft.now.category rows counts c.args.draft.now.intents c.args.t can stands.digits c.in_ok-plan.ensures.kept)
 
 pub invariant_of-self-2 : goal.invariant_of-self-2
 invariant_of-self-2 c =

@@ -1,6 +1,0 @@
-use Rattle.std.proofs.Common.{rules, arith}
-use Rattle.std.proofs.lemmas.Grind.{common_steps}
-use Rattle.archive_report.proofs.lines.put_breach.Goals as goal
-
-pub returns : goal.returns
-returns c = first_of (grind (arith, common_steps), search rules)

@@ -1,8 +1,0 @@
-use Rattle.std.proofs.Common.{◌≡◌, drop}
-use Rattle.event_life.specs.Openings.{opened_by}
-use Rattle.event_life.specs.Products.{lawful_of}
-use Rattle.event_life.proofs.openings.opened_by.Given as goal
-
--- the events are those of the lines from this place on
-abbrev pub invariant-loop-place : goal.invariant-loop-place
-invariant-loop-place l = l.events.keys ≡ opened_by (lawful_of (drop l.place l.judged))

@@ -1,6 +1,0 @@
-use Rattle.std.proofs.Common.{◌∷◌, take}
-use Rattle.office_journal.specs.Replaying.{HasTaken}
-use Rattle.office_journal.proofs.replay.go_on.Given as goal
-
-abbrev pub invariant-loop-body : goal.invariant-loop-body
-invariant-loop-body l = HasTaken (l.file ∷ take l.body-index l.others) l.found

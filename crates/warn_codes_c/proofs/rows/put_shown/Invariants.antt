@@ -1,7 +1,0 @@
-use Rattle.std.proofs.Common.{◌≡◌, ◌++◌, map, drop}
-use Rattle.warn_codes_c.specs.Rows.{shown_row}
-use Rattle.warn_codes_c.proofs.rows.put_shown.Given as goal
-
--- what is left makes the list whole
-abbrev pub invariant-loop-row : goal.invariant-loop-row
-invariant-loop-row l = l.rows ++ map shown_row (drop l.row-index l.shown) ≡ l.initial.rows ++ map shown_row l.shown
