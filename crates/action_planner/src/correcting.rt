@@ -230,10 +230,10 @@ fn correction_of(
     })
 }
 
-/// Returns the plan of a correction of `sent` at minute `t`: `COR` for each of its lines whose row
-/// is live at `t`, and no line for the others. `texts` come with the correction and replace those
-/// that `sent` has for the same events. `last` is the number of the last product of the category,
-/// and `letters` how many corrections the original has.
+/// Returns the plan of a correction of `sent` at minute `t`, at most 52,000,000: `COR` for each of
+/// its lines whose row is live at `t`, and no line for the others. `texts` come with the correction
+/// and replace those that `sent` has for the same events. `last` is the number of the last product
+/// of the category, and `letters`, at most 24, how many corrections the original has.
 ///
 /// # Errors
 ///

@@ -181,8 +181,9 @@ pub fn is_valid_zone_list(zones: &[Zone]) -> bool
     is_zone_list(zones)
 }
 
-/// Whether a draft of the category may hold the intent: the desk issues its hazard in this
-/// category, and it has 1 to 600 distinct zones, all of the kind that the hazard needs.
+/// Whether a draft of the category may hold the intent: products of the category open events of its
+/// hazard, for a put of a new event, or follow them up, for any other intent; and it has 1 to 600
+/// distinct zones, all of the kind (county or forecast zone) that the hazard needs.
 fn holds(category: Category, intent: &Intent) -> bool
     ensures { result ≡ may_hold category intent.now }
 {

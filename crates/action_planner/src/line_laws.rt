@@ -31,9 +31,9 @@ pub fn lines_are_of_the_desks_hazards()
         All (λ (line : Line). IsKnown line.event.hazard) (corrected_lines rows t lines) }
 {}
 
-/// If at most 9,999 numbers of each hazard and year were drawn, the event tracking number of each
-/// line of a correction is at most 9,999, and so is that of each line of a draft's product if the
-/// draft breaks no rule.
+/// If at most 9,999 numbers of each hazard and year were drawn, and the events that have rows are
+/// those with drawn numbers, the event tracking number of each line of a correction is at most
+/// 9,999. So is that of each line of a draft's product, if the draft breaks no rule.
 pub fn lines_have_four_digits()
     ensures planned { (c : Category) (rows : List Row) (counts : List Count)
         (intents : List Intent) (t : ℕ) →

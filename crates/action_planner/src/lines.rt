@@ -209,16 +209,19 @@ fn goes_on(category: Category, spoken: &Spoken, row: &Row) -> bool
         && !spoken.speaks(&row.event, &row.zone)
 }
 
-/// Whether a row is live at `t`, the minute of issue, and gets a `CON` line that no intent asks
-/// for, as `goes_on` tests.
+/// Whether a row gets a `CON` line that no intent asks for: it is live at `t`, the minute of issue,
+/// products of the category follow up its hazard, whose phenomenon is not FL, an intent has its
+/// zone, and no intent is on its event in that zone.
 fn is_continued(category: Category, t: Minute, spoken: &Spoken, row: &Row) -> bool
     ensures { result ≡ is_continued category t spoken.now row.now }
 {
     is_live(row, t) && goes_on(category, spoken, row)
 }
 
-/// Appends a `CON` line for each of `rows` that gets one although no intent asks for it, as
-/// `is_continued` tests at minute of issue `t`. The lines are in the order of `rows`.
+/// Appends a `CON` line, in the order of `rows`, for each of them that goes on though no intent
+/// asks for it: it is live at `t`, the minute of issue, products of the category follow up its
+/// hazard, whose phenomenon is not FL, an intent has its zone, and no intent is on its event in
+/// that zone.
 fn add_going_on(
     lines: &mut List<Line>,
     category: Category,
@@ -237,8 +240,10 @@ fn add_going_on(
     Ok(())
 }
 
-/// Appends a `CON` line, in the order of events, for each row of a zone that gets one although no
-/// intent asks for it, as `is_continued` tests. Most ended rows of the board are not looked at.
+/// Appends a `CON` line, in the order of events, for each row of `zone` that goes on though no
+/// intent asks for it: it is live at the minute of issue, products of the category follow up its
+/// hazard, whose phenomenon is not FL, and no intent is on its event in the zone. Appends nothing
+/// if no intent has the zone.
 fn add_in_zone(
     lines: &mut List<Line>,
     sending: &Sending,
@@ -256,8 +261,10 @@ fn add_in_zone(
     add_going_on(lines, category, t, sending.spoken(), rows)
 }
 
-/// Appends a `CON` line for each row of these zones that gets one although no intent asks for it,
-/// as `is_continued` tests. The lines are in the order of `zones`, and in a zone in that of events.
+/// Appends a `CON` line, in the order of `zones` and in a zone in that of events, for each row of
+/// these zones that goes on though no intent asks for it: it is live at the minute of issue,
+/// products of the category follow up its hazard, whose phenomenon is not FL, an intent has its
+/// zone, and no intent is on its event in that zone.
 fn add_in_zones(
     lines: &mut List<Line>,
     sending: &Sending,
@@ -275,9 +282,10 @@ fn add_in_zones(
     Ok(())
 }
 
-/// Appends a `CON` line, by zone and then by event, for each row of the board that gets one
-/// although no intent asks for it, as `is_continued` tests. Only the zones of the intents are
-/// looked at.
+/// Appends a `CON` line, by zone and then by event, for each row of the board that goes on though
+/// no intent asks for it: it is live at the minute of issue, products of the category follow up its
+/// hazard, whose phenomenon is not FL, an intent has its zone, and no intent is on its event in
+/// that zone.
 fn add_continued(
     alloc: Global,
     lines: &mut List<Line>,
@@ -292,8 +300,9 @@ fn add_continued(
 }
 
 /// Returns the lines of a draft: those of the intents, in the order of the draft and for each in
-/// the order in which its zones were written; then `CON` for the other live rows of the category in
-/// the draft's zones, by zone and then by event.
+/// the order in which its zones were written; then, by zone and then by event, a `CON` line for
+/// each other live row in the draft's zones. Such a row has a hazard that products of the category
+/// follow up and whose phenomenon is not FL, and no intent is on its event in its zone.
 ///
 /// # Errors
 ///

@@ -77,9 +77,11 @@ fn new_event(numbers: &Numbers, t: Minute, earlier: &[Intent], hazard: &Hazard) 
     }
 }
 
-/// Returns the event of an intent of a draft: the new one of a put that opens one, with number 0 in
-/// the year of `t` for a routine intent, and else the event that the intent names. `earlier` are
-/// the draft's intents before it, which draw numbers first, and `t` is the minute of issue.
+/// Returns the event of an intent of a draft. For a put that opens one it is a new event, with the
+/// next number of its hazard after those that `numbers` has drawn in its year and those that
+/// `earlier`, the draft's intents before it, draw; for a routine intent it has the intent's hazard
+/// and number 0; for any other it is the event that the intent names. In the first two cases its
+/// year is that of `t`, the minute of issue.
 fn event_of_intent(numbers: &Numbers, t: Minute, earlier: &[Intent], intent: &Intent) -> Event
     requires { length earlier.now ≤ 64 }
     ensures { result ≡ event_of_intent numbers.now.counts t earlier.now intent.now }

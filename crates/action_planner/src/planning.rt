@@ -48,9 +48,10 @@ fn plan_of(alloc: Global, category: Category, lines: List<Line>, ps: &[Placed]) 
 }
 
 /// Returns the plan of a draft that is sent at minute `t`: its lines, their segments, the events
-/// that it opens and the texts of each event. The lines are those of the intents, and `CON` for the
-/// other live rows of the category in the zones of the draft. The draft must pass `may_be_planned`,
-/// `board` and `numbers` must be those of one office, and `t` at most 52,000,000.
+/// that it opens and the texts of each event. The lines are those of the intents, and `CON` for
+/// each other live row in the zones of the draft whose hazard products of the category follow up
+/// and is not of phenomenon FL. The draft must pass `may_be_planned`, `board` and `numbers` must be
+/// those of one office, and `t` at most 52,000,000.
 ///
 /// # Errors
 ///

@@ -97,7 +97,7 @@ fn opening_line(t: Minute, event: &Event, part: &PutPart, zone: &Zone, action: A
 /// Returns the line that gives this period and these flood values to `row`, the row of `event` that
 /// no line has ended: `CON` if the row has the same period, else `EXT`. Periods are the same at
 /// `t`, the minute of issue, if their ends are equal and their begins are equal or both not after
-/// `t`.
+/// `t`. The line's begin is `None`, printed as zeros, if that of `period` is not after `t`.
 pub fn carried_line(
     t: Minute,
     event: &Event,
@@ -123,8 +123,9 @@ pub fn carried_line(
 }
 
 /// Returns the line of a put on `row`, the row of `event` that no line has ended: `CON` if the row
-/// keeps its period, else `EXT`. A begin at or before `t`, the minute of issue, is kept and printed
-/// as zeros.
+/// keeps its period, else `EXT`. A row that has begun at `t`, the minute of issue, keeps its begin,
+/// and any other gets that of the put. The line's begin is `None`, printed as zeros, if it is not
+/// after `t`.
 fn continuing_line(t: Minute, event: &Event, part: &PutPart, row: &Row) -> Line
     ensures { result ≡ continuing_line t event.now part.now row.now }
 {
@@ -153,8 +154,9 @@ fn joined_row(board: &Board, event: &Event, zone: &Zone, target: &Target) -> Opt
 }
 
 /// Returns the line that a put of `event` has in `zone`, one of its zones, at minute of issue `t`.
-/// `opening` must be what `opening_action` returns for the put; it is the line's action if the
-/// event has no row in the zone, or one that a line has ended.
+/// If the put joins the event and the event has a row there that no line has ended, it is `CON` if
+/// the row keeps its period, else `EXT`; otherwise its action is `opening`. `opening` must be what
+/// `opening_action` returns for the put.
 pub fn line_of_put(
     board: &Board,
     t: Minute,
@@ -173,7 +175,8 @@ pub fn line_of_put(
 }
 
 /// Returns the row that the event has in a zone after a put of it at minute of issue `t`, unended
-/// and with the put's period and flood values. A row that had begun at `t` keeps its begin.
+/// and with the put's period and flood values. If the put joins the event, and the event has a row
+/// there on `board` that no line has ended and that has begun at `t`, the row keeps that begin.
 pub fn row_after_put(board: &Board, t: Minute, event: &Event, part: &PutPart, zone: &Zone) -> Row
     ensures { result ≡ row_after_put board.now.rows t event.now part.now zone.now }
 {

@@ -65,8 +65,9 @@ fn puts_or_finishes(intent: &Intent) -> bool
     }
 }
 
-/// Returns what is known of the intents on one event in one zone once `p` is among them. `held` is
-/// what was known before, or `None` if there were none.
+/// Returns the summary of the intents on one event in one zone once `p` is among them: the place of
+/// the first, whether one is at another place, and whether one is a put or a finish. `held` is the
+/// summary before, or `None` if there were no such intents.
 fn with_intent(held: Option<IntentsOn>, p: &Placed) -> IntentsOn
     ensures { result ≡ with_intent held p.now }
 {
@@ -96,7 +97,8 @@ fn has_other(held: Option<IntentsOn>, place: usize) -> bool
     }
 }
 
-/// Counts the intent `p` among those that `spots` has on its event in `zone`, one of its zones.
+/// Adds the intent `p` to the summary that `spots` has of the intents on its event in `zone`, one
+/// of its zones. If `spots` has none there, it gets one of `p` alone.
 fn add_spot(spots: &mut BTreeMap<Spot, IntentsOn>, p: &Placed, zone: &Zone) -> Result<(), Oom>
     ensures { OnOk result (spots.new.entries ≡ add_spot spots.old.entries p.now zone.now) }
 {
@@ -109,7 +111,8 @@ fn add_spot(spots: &mut BTreeMap<Spot, IntentsOn>, p: &Placed, zone: &Zone) -> R
     Ok(())
 }
 
-/// Counts the intent `p` among those that `spots` has on its event, in each of its zones.
+/// Adds the intent `p`, in each of its zones, to the summary that `spots` has of the intents on its
+/// event there. Where `spots` has none, it gets one of `p` alone.
 fn add_spots(spots: &mut BTreeMap<Spot, IntentsOn>, p: &Placed) -> Result<(), Oom>
     ensures { OnOk result
         (spots.new.entries ≡ add_spots spots.old.entries p.now (zones_of p.now.intent)) }
@@ -120,8 +123,9 @@ fn add_spots(spots: &mut BTreeMap<Spot, IntentsOn>, p: &Placed) -> Result<(), Oo
     Ok(())
 }
 
-/// Returns what is known of the intents on each event in each zone, by event and zone. Only an
-/// event and a zone that an intent is on have an entry.
+/// Returns for each event and zone that an intent of `ps` is on, in ascending order, the summary of
+/// these intents: the place of the first, whether one is at another place, and whether one is a put
+/// or a finish.
 fn spots_of(alloc: Global, ps: &[Placed]) -> Result<BTreeMap<Spot, IntentsOn>, Oom>
     ensures { IfOk result (λ spots. spots.entries ≡ spots_from [] ps.now) }
 {
@@ -186,7 +190,9 @@ impl<'a> Spoken<'a> {
         self.ps
     }
 
-    /// Returns the intents that are on the event in the zone, or `None` if there is none.
+    /// Returns the summary of the intents that are on the event in the zone (the place of the
+    /// first, whether one is at another place, and whether one is a put or a finish), or `None` if
+    /// there is no such intent.
     fn intents_on(&self, event: &Event, zone: &Zone) -> Option<IntentsOn>
         ensures spoken { is_some result ≡ list_any (speaks event.now zone.now) self.now }
         ensures taken { is_taken result

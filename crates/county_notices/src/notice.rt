@@ -168,9 +168,10 @@ fn block_of(alloc: Global, issuer: &Issuer, t: Minute) -> Result<Block, Oom>
     })
 }
 
-/// Returns what the notice of a watch prints below the VTEC strings of a segment, beside the local
-/// time: no names of zones, and the name of the watch, as `Tornado Watch`, with an empty line after
-/// it. It is the same for each segment.
+/// Returns what the notice of a watch prints in a segment after its VTEC strings, but for the local
+/// line and the empty line after that: no names of zones above the local line, and below it the
+/// name of the watch, as `Tornado Watch`, and an empty line. It is the same for each segment;
+/// `segment` is not read.
 fn body_of(alloc: Global, watch: Watch, segment: &Segment) -> Result<Body, Oom>
     ensures { IfOk result (λ body. body ≡ body_of watch segment.now) }
 {
@@ -182,8 +183,8 @@ fn body_of(alloc: Global, watch: Watch, segment: &Segment) -> Result<Body, Oom>
     })
 }
 
-/// Returns, for each segment in order, what the notice of a watch prints below its VTEC strings,
-/// beside the local time: no names of zones, and the name of the watch with an empty line after it.
+/// Returns, for each segment in order, what the notice of a watch prints below its VTEC strings, as
+/// `body_of` has it: no names of zones, and the name of the watch with an empty line after it.
 fn bodies_of(alloc: Global, watch: Watch, segments: &[Segment]) -> Result<List<Body>, Oom>
     ensures { IfOk result (λ bodies. bodies ≡ map (body_of watch) segments.now) }
 {

@@ -106,7 +106,8 @@ fn parse_year(word: &[u8]) -> Option<u16>
 
 /// Returns the values of a local line, given the letters of its abbreviation, the words of its
 /// date, and `time`, its hour (0 to 23) and minute. `None` if the month is no name as `Jan`, the
-/// day is not one or two digits, or the year is not four. Whether the date exists is not tested.
+/// day is not one or two digits, or the year is not four. Whether the date exists is not tested,
+/// and letters that are no known abbreviation give `None` as `abbreviation`.
 #[tactic(auto, unfolding(crate::specs::LocalWords::parse_date))]
 fn parse_date(
     letters: &[u8],

@@ -37,7 +37,9 @@ fn category_key(category: Category) -> &'static str
     }
 }
 
-/// Returns all keys that settings must have, in the order in which faults are looked for.
+/// Returns all keys that settings must have, in the order in which faults are looked for: `office`,
+/// `site`, `office_line`, `zone`, `desks`, the eight headings in the order of `Category`, and
+/// `zones`.
 ///
 /// Source: docs/DECISIONS.md, "Settings" (the order of faults).
 #[tactic(auto, unfolding(crate::specs::Keys::keys))]
@@ -143,8 +145,9 @@ fn is_missing(table: &Table, key: Key) -> bool
     value_at(table, key).is_none()
 }
 
-/// Returns the first key, in the order in which faults are looked for, at which the document
-/// `table` has no value, or `None` if it has a value at each.
+/// Returns the first key, in the order of `keys` (`office`, `site`, `office_line`, `zone`, `desks`,
+/// the headings, `zones`), at which the document `table` has no value, or `None` if it has a value
+/// at each.
 pub fn missing_key(table: &Table) -> Option<Key>
     ensures { result ≡ missing_key (table_view table.now) }
 {

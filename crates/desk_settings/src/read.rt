@@ -53,8 +53,9 @@ fn read_table(alloc: Global, bytes: &[u8]) -> Result<Table, Or<SettingsFault>>
 }
 
 /// Returns the settings that the values of the document `table` give. Errs with `BadValue` of the
-/// first key, in the order in which faults are looked for, whose value is missing or does not have
-/// its form, then with `Twice` if a desk is named twice, or out of memory.
+/// first key, in the order `office`, `site`, `office_line`, `zone`, `desks`, headings, `zones`,
+/// whose value is missing or does not have its form, then with `Twice` if a desk is named twice, or
+/// out of memory.
 #[tactic(auto, unfolding(crate::specs::Reading::fields_in))]
 fn fields_in(alloc: Global, table: &Table) -> Result<Settings, Or<SettingsFault>>
     ensures { Gives result (fields_in (table_view table.now)) }
@@ -84,7 +85,8 @@ fn fields_in(alloc: Global, table: &Table) -> Result<Settings, Or<SettingsFault>
 
 /// Returns the settings of the document `table`. Errs with the first of these faults, or out of
 /// memory: `Missing` with the first key that is not there, `BadValue` with the first key whose
-/// value does not have its form, and `Twice` if a desk is named twice.
+/// value does not have its form, and `Twice` if a desk is named twice. Keys are looked at in the
+/// order `office`, `site`, `office_line`, `zone`, `desks`, headings, `zones`.
 #[tactic(auto, unfolding(crate::specs::Reading::settings_in))]
 fn settings_in(alloc: Global, table: &Table) -> Result<Settings, Or<SettingsFault>>
     ensures { Gives result (settings_in (table_view table.now)) }

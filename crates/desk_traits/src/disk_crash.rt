@@ -66,10 +66,11 @@ fn torn_to(alloc: Global, digit: u64, at: u64, bytes: &[u8], file: Text) -> Resu
     file_after(alloc, file, at, &other)
 }
 
-/// Returns the file as a read returns it and as a crash leaves it, after one more call than in
-/// `crash`. A write, failed or not, takes the lowest base-4 digit of those that remain, which
-/// chooses what a crash leaves of it. After a successful sync a crash leaves what a read returns,
-/// and the digits are again all those of `pick`.
+/// Returns the file as a read returns it and as a crash leaves it after `call`, where `crash` has
+/// them before it. A write, failed or not, takes the lowest base-4 digit of those that remain of
+/// `pick`: 0 leaves nothing of it after a crash, 1 all, 2 the first half, 3 as many bytes `G`.
+/// After a successful sync a crash leaves what a read returns, and the digits are again all those
+/// of `pick`.
 fn crash_after(alloc: Global, pick: u64, call: &DiskCall, crash: Crashed) -> Result<Crashed, Oom>
     ensures { IfOk result (λ new. new ≡ crash_after pick call.now crash) }
 {

@@ -143,8 +143,8 @@ impl MemDisk {
         file_left(self.alloc, &self.first, self.pick, &self.calls)
     }
 
-    /// Counts one more call, and returns whether this call is to fail by its number, 1 for the
-    /// first.
+    /// Counts one more call, and returns whether this call is to fail: its number, 1 for the first,
+    /// is in `failing` or greater than `stop`, as these were given to `MemDisk::new`.
     fn called(&mut self) -> bool
         ensures first { self.new.first ≡ self.old.first }
         ensures file { self.new.file ≡ self.old.file }
@@ -180,9 +180,10 @@ impl MemDisk {
         self.lacked = self.lacked || !noted;
     }
 
-    /// Counts and records a call that is not a write, and returns whether it succeeded. It is
-    /// recorded as `good`, or as `failed` if it is to fail by its number. If there is no memory for
-    /// the record, the call fails and is not recorded.
+    /// Counts and records a call that is not a write, and returns whether it succeeded. If its
+    /// number is in `failing` or greater than `stop`, it fails and is recorded as `failed`, else it
+    /// is recorded as `good`. If there is no memory for the record, the call fails and is not
+    /// recorded.
     fn asked(&mut self, good: DiskCall, failed: DiskCall) -> bool
         requires good { is_write good ≡ false }
         requires failed { is_write failed ≡ false }

@@ -7,8 +7,9 @@ ghost use Rattle.desk_traits.specs.File.{Torn, IsWithin, WritesAt, Only, NotesSy
 use crate::disk::Disk;
 use crate::faults::Failed;
 
-/// Writes `bytes` over the file from byte `at` on, counted from 0, and makes this and all earlier
-/// writes stable: a crash directly afterwards leaves the file as a read returns it.
+/// Writes `bytes` over the file from byte `at` on, counted from 0 and at most its length, and makes
+/// this and all earlier writes stable: a crash directly afterwards leaves the file as a read
+/// returns it. What goes past the end makes the file longer.
 ///
 /// # Errors
 ///

@@ -81,9 +81,11 @@ pub(crate) fn begin_of(line: &Line, t: Minute) -> Minute
     }
 }
 
-/// Returns the first breach of a NEW line, or `None` if there is none. `stands` is whether the
-/// event has an unended life in the zone, `t` is the issue minute, and `around` has what the other
-/// rows say of the event.
+/// Returns the first breach of a NEW line, or `None` if there is none. It is `Reopened` if `stands`
+/// (the event has an unended life in the zone) or the event has any rows, else `NumberHeld` if an
+/// open event of an earlier year has its number, `ZeroBegin` for a begin of zeros, `TooEarly` for a
+/// begin before the issue minute `t`, or `NoLength` if the end is not after the begin. `around` has
+/// what the other rows say of the event.
 fn new_breach(stands: bool, line: &Line, t: Minute, around: Around) -> Option<Breach>
     ensures { result ≡ first_of (on_new stands line.now t around) }
 {
@@ -103,9 +105,11 @@ fn new_breach(stands: bool, line: &Line, t: Minute, around: Around) -> Option<Br
     }
 }
 
-/// Returns the first breach of an EXA or EXB line, or `None` if there is none; if it has no other
-/// breach and `fails_last` is true, it is `last`. `stands` is whether the event has an unended life
-/// in the zone, `t` is the issue minute, and `around` has what the other rows say of the event.
+/// Returns the first breach of an EXA or EXB line, or `None` if there is none. It is `Reopened` if
+/// `stands` (the event has an unended life in the zone), else `NotOpening` if the event is not
+/// open, `TooEarly` for a begin before the issue minute `t`, `NoLength` if the end is not after the
+/// begin, or `last` if `fails_last` is true. A begin of zeros counts as `t`; `around` has what the
+/// other rows say of the event.
 fn joining_breach(
     stands: bool,
     line: &Line,
@@ -171,9 +175,11 @@ fn prints_to_come(line: &Line, t: Minute) -> bool
     }
 }
 
-/// Returns the first breach of a CON, COR or EXT line, or `None` if there is none; if it has no
-/// other breach and `fails_last` is true, it is `last`. `life` is what the lines before have left
-/// of the event in the zone, and `t` is the issue minute.
+/// Returns the first breach of a CON, COR or EXT line, or `None` if there is none. It is `NotLive`
+/// if a line has ended `life`, what the lines before left, or its end is not after the issue minute
+/// `t`; else `ZeroBegin` for a printed begin not after `t`, `BegunMoved` for one after `t` though
+/// `life` has begun, `NoLength` for an end not after the begin or `t`, or `last` if `fails_last` is
+/// true. A begin of zeros counts as the earlier of `t` and the begin of `life`.
 fn continuing_breach(
     life: &Life,
     line: &Line,
@@ -393,8 +399,8 @@ fn opened_life(line: &Line, t: Minute) -> Life
 }
 
 /// Returns the life after a lawful line, where `life`, ended or not, is the one before it and `t`
-/// the issue minute. NEW, EXA and EXB start a life over; CON, COR and EXT carry it on; CAN, EXP and
-/// UPG end it.
+/// the issue minute. NEW, EXA and EXB start a life over, as would ROU, for which it is not meant;
+/// CON, COR and EXT carry it on; CAN, EXP and UPG end it.
 fn life_after_line(life: &Life, line: &Line, t: Minute) -> Life
     ensures { result ≡ life_after_line line.now.action life.now line.now t }
 {

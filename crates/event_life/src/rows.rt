@@ -157,8 +157,10 @@ pub fn life_at(rows: &[Row], line: &Line) -> Option<Life>
 
 /// Returns the facts about other rows that a line is judged by: whether its event has rows
 /// (`opened`) and is open (`going`), whether an open event of an earlier year has its hazard and
-/// number (`held`), and whether a live row of the event has its period (`same`). `rows` are the
-/// rows just before the product, and `t` is its issue minute. `higher` is put in as it is given.
+/// number (`held`), and whether a live row of the event has the line's period (`same`). `rows` are
+/// the rows just before the product, and `t` is its issue minute. `higher` is put in as it is
+/// given: whether a UPG line has the row of a higher rank of its family that it needs, or needs
+/// none. Only UPG lines are judged by it.
 pub fn around(rows: &[Row], t: Minute, line: &Line, higher: bool) -> Around
     ensures { result ≡ around_but_higher rows.now t line.now higher }
 {

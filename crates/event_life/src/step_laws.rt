@@ -123,7 +123,8 @@ pub fn ended_lives_are_opened_anew()
         step (Some life) line t around ≡ step None line t around }
 {}
 
-/// A single step never returns `Twice`; that is judged over the whole product.
+/// `life_step`, which judges a line by itself, never errs with `Twice`. That breach, a second line
+/// of an event and zone in one product, is found only over the whole product.
 pub fn steps_are_never_twice()
     ensures { (before : Option Life) (line : Line) (t : ℕ) (around : Around) →
         step before line t around ≢ Err Twice }

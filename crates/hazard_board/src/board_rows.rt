@@ -125,10 +125,12 @@ impl BoardRows {
         Ok(())
     }
 
-    /// Reserves memory for `n` more rows in the field `live`, after removing ended rows from it if
-    /// enough rows were reserved since the last such removal. It never fails: if memory runs out,
-    /// `live` has less room, and a row that later finds none there makes it no longer known to hold
-    /// all live rows.
+    /// Reserves memory for `n` more rows in the field `live`. Before that it replaces `live` by the
+    /// rows that are live at the last product's issue minute, unless these are more than 1,024, if
+    /// the rows reserved since the last such step, `n` with them, have reached 64 plus half of
+    /// those that were live then, or if a row has found no room in `live` since. It never fails: if
+    /// memory runs out, `live` has less room, and a row that later finds none there makes it no
+    /// longer known to hold all live rows.
     fn make_ready(&mut self, n: usize)
         ensures rows { self.new.rows ≡ self.old.rows }
         ensures spare { self.new.spare ≡ self.old.spare }

@@ -99,7 +99,8 @@ fn clash_with(first: &Row, others: &[Row], t: Minute) -> Option<Clash>
 
 /// Returns the clash of the first row that clashes at `t` with a row after it, paired with the
 /// first such row after it, or `None` if no two rows clash. The rows are in order by zone, then
-/// event.
+/// event. Two rows clash at `t` if they are of one zone, live at `t` (unended, with an end after
+/// `t`), and of different events of one hazard family with periods that overlap.
 fn first_clash(rows: &[Row], t: Minute) -> Option<Clash>
     requires { IsStrictlySortedBy by_key rows.now }
     ensures { result ≡ first_clash t rows.now }
@@ -124,14 +125,18 @@ fn those_that_may_clash(alloc: Global, rows: &[Row], t: Minute) -> Result<Vec<Ro
         .collect(alloc)
 }
 
-/// Whether the two rows clash at `t`, the first with the second or the second with the first.
+/// Whether the two rows clash at `t`: they are of one zone, live at `t` (unended, with an end after
+/// `t`), and of different events of one hazard family with periods that overlap. The order of the
+/// two does not matter.
 fn clash_either(t: Minute, a: &Row, b: &Row) -> bool
     ensures { result ≡ clash_either t a.now b.now }
 {
     clash(t, a, b) || clash(t, b, a)
 }
 
-/// Whether the row clashes at `t` with one of the rows `some`.
+/// Whether the row clashes at `t` with one of the rows `some`; `false` if there are none. Two rows
+/// clash at `t` if they are of one zone, live at `t` (unended, with an end after `t`), and of
+/// different events of one hazard family with periods that overlap.
 fn clashes_among(t: Minute, some: &[Row], row: &Row) -> bool
     ensures { result ≡ clashes_among t some.now row.now }
 {
@@ -139,7 +144,8 @@ fn clashes_among(t: Minute, some: &[Row], row: &Row) -> bool
 }
 
 /// Whether `left`, the row that a line leaves, is marked as new or changed, and clashes at `t` with
-/// one of the rows `some`.
+/// one of the rows `some`. Two rows clash at `t` if they are of one zone, live at `t` (unended,
+/// with an end after `t`), and of different events of one hazard family with periods that overlap.
 fn is_new_clash(t: Minute, some: &[Row], left: &Left) -> bool
     ensures { result ≡ is_new_clash t some.now left.now }
 {
@@ -147,7 +153,9 @@ fn is_new_clash(t: Minute, some: &[Row], left: &Left) -> bool
 }
 
 /// Whether one of `lefts`, the rows that lines leave, is marked as new or changed, and clashes at
-/// `t` with one of the rows `some`.
+/// `t` with one of the rows `some`. Two rows clash at `t` if they are of one zone, live at `t`
+/// (unended, with an end after `t`), and of different events of one hazard family with periods that
+/// overlap.
 fn has_new_clash(t: Minute, some: &[Row], lefts: &[Left]) -> bool
     ensures { result ≡ list_any (is_new_clash t some.now) lefts.now }
 {
@@ -266,9 +274,11 @@ pub fn clash_in_zones(alloc: Global, rows: &BoardRows, lines: &[Line], t: Minute
     Ok(best)
 }
 
-/// Returns the first clash, by zone, then by the pair of events, among the rows that are left once
-/// `lines` are applied to `rows`, or `Ok(None)` if there is none. It reads all zones; `t` is the
-/// issue minute, at which both rows of a clash are live.
+/// Returns the first clash, by zone, then by the pair of events, among the rows of all zones that
+/// are left once `lines` are applied to `rows`, or `Ok(None)` if there is none. Each line is
+/// applied to the row that its event had in its zone before all lines; a ROU line, or one that this
+/// row does not allow, changes nothing. A clash is two rows of one zone that are live at `t`, the
+/// issue minute, and are of different events of one hazard family with periods that overlap.
 ///
 /// # Errors
 ///

@@ -38,10 +38,12 @@ pub fn consistent_rows_stay_consistent()
     ensures { (rows : List Row) (t u : ℕ) → t ≤ u → IsConsistent rows t → IsConsistent rows u }
 {}
 
-/// The rows after a product are consistent at its issue minute `t` if the rows before it, in order
-/// by zone, then event, are. For this no row's event may be of a later year than `t`, the NEW lines
-/// must be of events of the year of `t`, and no two rows after the product may clash at `t`. Lines
-/// in breach leave no row.
+/// Rows are consistent at a minute if in a zone no two unended rows of one family overlap, no two
+/// events that are open then have one hazard and number, and each row ends after its begin. The
+/// rows after a product are consistent at its issue minute `t` if the rows before it, in order by
+/// zone, then event, are, no row's event is of a later year than `t`, the NEW lines are of events
+/// of the year of `t`, and no two rows after the product clash: none are live at `t`, of one zone
+/// and family and of different events, with periods that overlap. Lines in breach leave no row.
 pub fn products_keep_rows_consistent()
     ensures { (rows : List Row) (t : ℕ) (lines : List Line) →
         IsStrictlySortedBy by_key rows → IsConsistent rows t → NoneIsAhead rows t →
@@ -61,15 +63,19 @@ pub fn no_event_comes_ahead_of_its_year()
 {}
 
 /// An empty list of rows is consistent at any minute `t`, and no event in it is of a later year
-/// than `t`.
+/// than `t`. Consistent means that in a zone no two unended rows of one family overlap, that no two
+/// open events have one hazard and number, and that each row ends after its begin.
 pub fn no_rows_are_consistent()
     ensures consistent { (t : ℕ) → IsConsistent [] t }
     ensures behind { (t : ℕ) → NoneIsAhead [] t }
 {}
 
 /// The rows that a list of products leaves, taken in order from no rows, are consistent at minute
-/// `u` if these hold: the first product is not issued before `t`, none before the one before it,
-/// and the last not after `u`. And just after each product no two rows clash at its issue minute.
+/// `u` if the first product is not issued before `t`, none before the one before it, the last not
+/// after `u`, and just after each product no two rows clash at its issue minute. Consistent means
+/// that in a zone no two unended rows of one family overlap, that no two open events have one
+/// hazard and number, and that each row ends after its begin. Rows clash at a minute if they are
+/// live then, of one zone and family and of different events, with periods that overlap.
 pub fn read_rows_are_consistent()
     ensures { (products : List Product) (t u : ℕ) →
         LeaveNoClash [] t u products → IsConsistent (rows_of products) u }

@@ -19,8 +19,10 @@ use event_life::{Around, Life, is_routine, life_step, row_of};
 use hazard_types::{Action, Line, Minute, Oom, Row, Zone};
 use std::alloc::Global;
 
-/// Returns the facts about other rows that give a line with this action no breach: `going` and
-/// `higher` are true, `opened` and `held` false. `same`, whether another row has the line's period,
+/// Returns the facts about other rows that give a line with this action no breach: its event is
+/// open (`going`) and a row of a higher rank of its family overlaps its row (`higher`), but the
+/// event has no rows yet (`opened` is false), and no event of an earlier year with its hazard and
+/// number is open (`held` is false). `same`, whether a live row of the event has the line's period,
 /// is true for EXA alone, which must have such a period.
 fn wanted(action: &Action) -> Around
     ensures { result ≡ wanted action.now }
@@ -231,9 +233,9 @@ fn apply_line_to_rows(
 
 /// Applies lines one after another to the rows of a board, to `spots` (the event and zone of each
 /// row, by event) and to `periods` (the periods of unended rows by event, each with their count).
-/// Each line is applied to the rows that the lines before it left; `t` is the issue minute. It
-/// takes no memory: in all three there must be room for as many entries as there are rows
-/// afterwards.
+/// Each line is applied to the rows that the lines before it left, at the issue minute `t`; a ROU
+/// line, or one that the row of its event and zone does not allow, changes nothing. It takes no
+/// memory: in all three there must be room for as many entries as there are rows afterwards.
 pub fn apply_lines_to_rows(
     rows: &mut BoardRows,
     spots: &mut Vec<Spot>,
@@ -262,7 +264,8 @@ pub fn apply_lines_to_rows(
 
 /// Returns rows, by zone, then event, among which are all that are live at `t`, the issue minute,
 /// once the lines are applied. Each line is applied to the row that its event and zone have in
-/// `rows`, before all lines; one that this row does not allow changes nothing.
+/// `rows`, before all lines; of two lines of one event and zone the later one decides. A ROU line,
+/// or one that this row does not allow, changes nothing.
 ///
 /// # Errors
 ///

@@ -52,8 +52,8 @@ pub fn slice_of<'a>(rows: &'a [Row], z: &Zone) -> &'a [Row]
     &rest[..count]
 }
 
-/// Returns `first`, or if that is `Equal` the order of the two events, which are compared only
-/// then.
+/// Returns `first`, or if that is `Equal` how the two events compare by hazard, number and year.
+/// They are compared only then.
 pub fn then_by_event(first: Ordering, a: &Event, b: &Event) -> Ordering
     ensures { result ≡ ordering_then first (by_event a.now b.now) }
 {
@@ -64,7 +64,8 @@ pub fn then_by_event(first: Ordering, a: &Event, b: &Event) -> Ordering
     }
 }
 
-/// Returns how the zone and event of a row compare with `z` and `e`: by zone, then event.
+/// Returns how the zone and event of a row compare with `z` and `e`: by zone, then event (hazard,
+/// number, year). `Less` means that the row comes before them.
 fn compare_row_key(row: &Row, e: &Event, z: &Zone) -> Ordering
     ensures { result ≡ compare_row_key e.now z.now row.now }
 {
@@ -103,7 +104,7 @@ pub fn row_at(rows: &[Row], e: &Event, z: &Zone) -> Option<Row>
     }
 }
 
-/// Returns how two rows compare by zone, then event.
+/// Returns how two rows compare by zone, then event (hazard, number, year).
 fn order(a: &Row, b: &Row) -> Ordering
     ensures { result ≡ by_key a.now b.now }
 {

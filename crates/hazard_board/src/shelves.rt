@@ -168,8 +168,9 @@ fn split_shelf(later: &mut Vec<Shelf>, place: usize, n: usize) -> Result<(), Oom
     }
 }
 
-/// Reserves capacity for `n` more rows on each of the shelves, and splits those of more than 64
-/// rows. It goes from the last shelf to the first.
+/// Reserves capacity for `n` more rows on each of the shelves, and splits in two each that has more
+/// than 64 rows, not all of one zone. It goes from the last shelf to the first. `Err` is out of
+/// memory; no row is lost.
 fn reserve_shelves(later: &mut Vec<Shelf>, n: usize) -> Result<(), Oom>
     requires { IsStrictlySortedBy by_key (on_shelves later.old.items) }
     ensures kept { AreKept n later.old.items later.new.items }
@@ -202,8 +203,8 @@ fn split_first_shelf(first: &mut Vec<Row>, later: &mut Vec<Shelf>, n: usize) -> 
     Ok(())
 }
 
-/// Reserves capacity for `n` more rows on each shelf, `first` among them, and splits those of more
-/// than 64 rows.
+/// Reserves capacity for `n` more rows on each shelf, `first` among them, and splits in two each
+/// that has more than 64 rows, not all of one zone. `Err` is out of memory; no row is lost.
 fn reserve_each(first: &mut Vec<Row>, later: &mut Vec<Shelf>, n: usize) -> Result<(), Oom>
     requires { AreShelved first.old.items later.old.items }
     ensures rows { HoldSame first.old.items later.old.items first.new.items later.new.items }
@@ -275,8 +276,8 @@ impl Shelves {
         least
     }
 
-    /// Takes memory for `n` more rows, in whatever zones. Long shelves are split if memory has to
-    /// be taken.
+    /// Takes memory for `n` more rows, in whatever zones. If there is not enough already, each
+    /// shelf with more than 64 rows, not all of one zone, is split in two. No row changes.
     ///
     /// # Errors
     ///
@@ -339,8 +340,9 @@ impl Shelves {
         }
     }
 
-    /// Inserts a row in order, or replaces the one with its zone and event, if its shelf has room
-    /// for it, and returns whether it did. If not, nothing changes.
+    /// Inserts a row in the order by zone, then event, if its shelf has spare capacity, or replaces
+    /// the one with its zone and event, which takes no room. Returns whether it did either; if not,
+    /// nothing changes.
     pub fn add_if_room(&mut self, row: &Row) -> bool
         ensures { self.new.rows ≡ (if result then put row.now self.old.rows else self.old.rows) }
     {

@@ -49,7 +49,8 @@ pub fn is_location(text: &[u8]) -> bool
     text.len() == 5 && are_name_bytes(text)
 }
 
-/// Returns the five characters of the code of a location, or `None` if the text is not one.
+/// Returns the five characters of the code of a location, as `FDKM2`, or `None` if the text is not
+/// exactly five characters of A-Z and 0-9.
 ///
 /// Source: NWS Instruction 10-1703, H-VTEC location identifier.
 pub fn parse_location(text: &[u8]) -> Option<[u8; 5]>

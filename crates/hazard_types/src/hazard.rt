@@ -44,7 +44,7 @@ impl Phen {
         }
     }
 
-    /// Returns the phenomenon with these capital letters.
+    /// Returns the phenomenon with these two letters, each of which must be A-Z.
     pub(crate) fn of(letters: [u8; 2]) -> Self
         requires { IsTrue (are_letters letters) }
         ensures { result ≡ letters }

@@ -13,7 +13,8 @@ use crate::hazard::Sig;
 use crate::table::find;
 use std::cmp::Ordering;
 
-/// Returns how `a` compares with `b`, by the first letter that differs.
+/// Returns how `a` compares with `b`: by the first letter, and by the second if the first is the
+/// same in both.
 pub(crate) fn letters_in_order(a: [u8; 2], b: [u8; 2]) -> Ordering
     ensures { result ≡ slice_cmp nat_cmp a b }
 {

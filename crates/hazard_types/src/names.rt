@@ -80,7 +80,9 @@ impl Category {
     }
 }
 
-/// Returns the zone that six characters such as `MDZ003` are, or `None` if the text is no zone.
+/// Returns the zone whose six characters the text is, as `MDZ003`: two capital letters for the
+/// state, `C` or `Z` for the kind, and three digits for the number, 001 to 999. `None` for any
+/// other text.
 ///
 /// Source: NWS Instruction 10-1702, UGC.
 #[tactic(auto, unfolding(crate::specs::Names::zone_at))]
@@ -118,8 +120,8 @@ pub fn zone_text(zone: &Zone) -> [u8; 6]
     ]
 }
 
-/// Returns the hazard that four characters such as `WS.W` are, or `None` if the text is no hazard.
-/// Any two capital letters are a phenomenon.
+/// Returns the hazard whose four characters the text is, as `WS.W`: any two capital letters for the
+/// phenomenon, `.`, and the letter of a significance. `None` for any other text.
 ///
 /// Source: NWS Instruction 10-1703, P-VTEC phenomena and significance codes.
 #[tactic(auto, unfolding(crate::specs::Names::hazard_at))]

@@ -35,7 +35,7 @@ pub fn find<T: Copy, const N: usize>(rows: &[Coded<T>; N], code: &[u8]) -> Optio
 }
 
 /// Returns the code of the first row with this value, with the blanks that fill it up to four
-/// bytes, or `None` if no row has the value.
+/// bytes, or `None` if no row has the value. `==` of `T` must hold only of identical values.
 pub fn code_of<T: Copy + Eq, const N: usize>(rows: &[Coded<T>; N], value: T) -> Option<[u8; 4]>
     requires { HoldsOfIdentical T.eq }
     ensures value { result ≡ code_for_value T.eq rows.now value }

@@ -6,7 +6,7 @@ use crate::calendar::{parse_stamp, stamp};
 use crate::minute::Minute;
 use crate::period::End;
 
-/// Returns the stamp of a minute, or `000000T0000Z` for `None`.
+/// Returns the stamp of a minute in UTC, as `180103T1530Z`, or `000000T0000Z` for `None`.
 ///
 /// Source: NWS Instruction 10-1703, P-VTEC and H-VTEC times.
 pub fn time_text(time: Option<Minute>) -> [u8; 12]
@@ -44,7 +44,8 @@ pub fn parse_time(text: &[u8]) -> Option<Option<Minute>>
     read_time(text)
 }
 
-/// Returns the stamp of an end, or `000000T0000Z` for until further notice.
+/// Returns the stamp of the minute of an end in UTC, as `180103T1530Z`, or `000000T0000Z` for until
+/// further notice.
 ///
 /// Source: NWS Instruction 10-1703, P-VTEC event beginning and ending times.
 pub fn end_text(end: &End) -> [u8; 12]

@@ -97,9 +97,9 @@ fn line_period_text(alloc: Global, l: &SegLine, zone: LocalZone, t: Minute) -> R
 }
 
 /// Returns the headline of a line in a product of issue minute `t` before it is wrapped; empty for
-/// ROU. `period` must be the words of the line's period, as `until E`, or empty for CAN, EXP and
-/// UPG; the end in the headline of an EXP line is a local time of `zone`. The desk must issue the
-/// line's hazard.
+/// ROU. `period` must be the words of the line's period, as `until E`, or empty for CAN, EXP, UPG
+/// and ROU; the end in the headline of an EXP line is a local time of `zone`. The desk must issue
+/// the line's hazard.
 #[tactic(auto, unfolding(crate::specs::Headlines::headline_of))]
 fn headline_with(
     alloc: Global,

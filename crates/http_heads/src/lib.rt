@@ -40,8 +40,8 @@ pub fn has_field(buf: &[u8], fields: &[HeaderSpan], name: &[u8]) -> bool
     false
 }
 
-/// Whether the field is `Connection: close`, in any letter case. `buf` has the bytes of the head,
-/// and `field` tells where in them the field's name and value are.
+/// Whether the field's name is `Connection` and its whole value `close`, both in any letter case.
+/// `buf` has the bytes of the head, and `field` tells where in them the field's name and value are.
 fn asks_to_close(buf: &[u8], field: &HeaderSpan) -> bool
     requires { IsHeaderWithin (length buf.now) field.now }
     ensures { result ≡ asks_to_close (header_bytes buf.now field.now) }
@@ -49,8 +49,9 @@ fn asks_to_close(buf: &[u8], field: &HeaderSpan) -> bool
     is_named(buf, field, b"connection") && same_letters(field.value.of(buf), b"close")
 }
 
-/// Whether one of the fields is `Connection: close`, in any letter case. `buf` has the bytes of the
-/// head, and `fields` tell where in them the names and values are.
+/// Whether one of the fields has the name `Connection` and `close` as its whole value, both in any
+/// letter case. `buf` has the bytes of the head, and `fields` tell where in them the names and
+/// values are.
 pub fn has_close(buf: &[u8], fields: &[HeaderSpan]) -> bool
     requires { All (IsHeaderWithin (length buf.now)) fields.now }
     ensures { result ≡ has_close (map (header_bytes buf.now) fields.now) }

@@ -15,7 +15,8 @@ fn parse_cause(text: &[u8]) -> Option<Cause>
     Cause::new([text[0], text[1]])
 }
 
-/// Whether the length is 54 bytes and the slashes and dots are where an H-VTEC string has them.
+/// Whether the bytes are 54, with a slash at index 0 and 53 and a dot at index 6, 8, 11, 24, 37 and
+/// 50, as in an H-VTEC string. No other byte is looked at.
 #[tactic(auto, unfolding(crate::specs::Columns::has_columns))]
 fn has_columns(bytes: &[u8]) -> bool
     ensures value { result ≡ has_columns bytes.now }

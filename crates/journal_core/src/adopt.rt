@@ -102,9 +102,10 @@ fn read_record<D: Disk>(alloc: Global, disk: &mut D, at: u64, n: u64) -> Result<
     Ok(Step::Body(List::from_vec(body)))
 }
 
-/// Returns what a file of `n` bytes that is not fresh is: `Whole`, a journal, with its bodies in
-/// order and the byte of its last gate, or `Damaged` at a byte. Bytes count from 0. Errs if a call
-/// of the disk fails or memory runs out.
+/// Returns what a file of `n` bytes that is not fresh is. It is `Whole`, with its bodies in order
+/// and the byte of its last gate, if it is a journal, else `Damaged` at the byte of the first gate
+/// `G` whose record is cut short or has no byte after it, or at 0 if it does not start with `G`.
+/// Bytes count from 0; it errs if a call of the disk fails or memory runs out.
 fn scan<D: Disk>(alloc: Global, disk: &mut D, n: u64) -> Result<Found, ReadFault>
     requires { IsLength n (D.seen disk.old) }
     ensures seen { D.seen disk.new ≡ D.seen disk.old }
@@ -135,9 +136,11 @@ fn scan<D: Disk>(alloc: Global, disk: &mut D, n: u64) -> Result<Found, ReadFault
     Ok(Found::Damaged { at })
 }
 
-/// Syncs the disk and returns what its file is: `Unmade` if it is fresh, `Whole` with the bodies in
-/// order and the byte of the last gate if it is a journal, else `Damaged` at a byte. Bytes count
-/// from 0, and nothing is written. Errs if a call of the disk fails or memory runs out.
+/// Syncs the disk, writes nothing, and returns what its file is: `Unmade` if it is fresh (it has at
+/// most one byte, or starts with `.`), or `Whole`, with the bodies in order and the byte of the
+/// last gate, if it is a journal. Else it is `Damaged` at the byte of the first gate `G` whose
+/// record is cut short or has no byte after it, or at 0 if the file does not start with `G`. Bytes
+/// count from 0; it errs if a call of the disk fails or memory runs out.
 pub(crate) fn find<D: Disk>(alloc: Global, disk: &mut D) -> Result<Found, ReadFault>
     ensures seen { D.seen disk.new ≡ D.seen disk.old }
     ensures found { (file : List ℕ) → D.seen disk.old ≡ Some file → IfOk result

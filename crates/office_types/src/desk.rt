@@ -66,7 +66,7 @@ impl Desk {
         })
     }
 
-    /// Returns the name, 1 to 16 bytes.
+    /// Returns the desk's name, 1 to 16 ASCII characters of A-Z and 0-9, without padding.
     pub fn bytes(&self) -> &[u8]
         ensures value { result.now ≡ self.now }
         ensures name { IsTrue (is_desk_name result.now) }

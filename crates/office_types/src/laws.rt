@@ -6,7 +6,7 @@ ghost use Rattle.std.specs.Bool.{Decides};
 use crate::desk::Desk;
 use crate::request::Request;
 
-/// `==` of desks and of requests holds exactly of identical values.
+/// `==` of two desks, or of two requests, is true exactly if the two are the same value.
 #[tactic(auto, using(crate::proofs::Equality::desk_decides, crate::proofs::Equality::request_decides))]
 pub fn equality_of_requests_is_identity()
     ensures desks { (a b : List ℕ) → Decides (⟦<Desk as PartialEq>⟧.eq a b) (a ≡ b) }

@@ -188,7 +188,8 @@ pub enum Refusal {
 }
 
 impl Refusal {
-    /// Returns the refusal's code, its name, and the HTTP status of a call that is refused for it.
+    /// Returns the refusal's code, its name, and the HTTP status of a call that is refused for it,
+    /// such as `("E7", "UnknownZone", 422)`.
     ///
     /// Source: docs/REQUESTS.md, "Refusals"; docs/DECISIONS.md, "Forms".
     #[tactic(auto, unfolding(crate::specs::Refusals::label))]

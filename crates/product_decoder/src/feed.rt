@@ -62,9 +62,10 @@ impl Feed {
         self.ended = true;
     }
 
-    /// Returns the next product, from its heading line up to the next one. Before the end is marked
-    /// it is `None` until the heading line after the product is whole; after that it is `None` once
-    /// nothing is left.
+    /// Returns the next product, from its heading line up to the next one, and no longer keeps it.
+    /// What comes before the first heading line belongs to no product, and is passed over. Before
+    /// the end is marked it is `None` until the heading line after the product is whole; after that
+    /// it is `None` once no product is left.
     ///
     /// # Errors
     ///
@@ -83,7 +84,8 @@ impl Feed {
         }
     }
 
-    /// Returns how many bytes are kept: those of products that were not returned yet.
+    /// Returns how many bytes are kept: those that were pushed and neither returned in a product
+    /// nor passed over because no heading line came before them.
     pub fn held(&self) -> usize
         ensures { result ≡ length self.now.rest }
     {
@@ -112,8 +114,8 @@ fn take_one(alloc: Global, feed: &mut Feed, out: &mut List<Text>) -> Result<bool
     }
 }
 
-/// Appends to `out`, in the order of the stream, the products that are finished, or all that are
-/// left if the end of `feed` is marked. `Err` is out of memory.
+/// Appends to `out`, in the order of the stream, each product that is followed by a whole heading
+/// line, or, if the end of `feed` is marked, all that are left. `Err` is out of memory.
 fn take_each(alloc: Global, feed: &mut Feed, out: &mut List<Text>) -> Result<(), Oom>
     ensures ended { feed.new.ended ≡ feed.old.ended }
     ensures going { OnOk result (feed.old.ended ≡ false

@@ -106,8 +106,9 @@ fn firsts_of(alloc: Global, runs: &[Run]) -> Result<List<(Line, Option<Breach>)>
     Ok(List::from_vec(firsts))
 }
 
-/// Returns the events that the lawful lines of a product opened, in the order of the text. The
-/// lines of a run have the same events in each of its zones, so they are read for one zone alone.
+/// Returns the events that the lawful NEW lines of a product open, in order by hazard, number and
+/// year, each once. The lines of a run have the same events in each of its zones, so they are read
+/// for one zone alone.
 fn opened_of(alloc: Global, product: &Taken) -> Result<List<Event>, Oom>
     ensures { IfOk result (λ events. events ≡ events_opened_by (lawful_of product.now.judged)) }
 {
@@ -115,8 +116,8 @@ fn opened_of(alloc: Global, product: &Taken) -> Result<List<Event>, Oom>
     events_opened_by(alloc, firsts.as_slice())
 }
 
-/// Returns the events that the products opened, product by product in the order of `taken`, and
-/// within one in the order of the text.
+/// Returns the events that lawful NEW lines of the products open, product by product in the order
+/// of `taken`, and within one by hazard, number and year.
 fn opened_in(alloc: Global, taken: &[Taken]) -> Result<List<Event>, Oom>
     ensures { IfOk result (λ events. events ≡ opened_in taken.now) }
 {
@@ -148,9 +149,9 @@ fn all_found(alloc: Global, gaps: &[Gap]) -> Result<Vec<GapFound>, AllocError>
     gaps.iter().map(|gap| gap_found(gap)).collect(alloc)
 }
 
-/// Returns the gaps of the products, in the order in which the events were opened: the events that
-/// were opened with a number other than the next one of their hazard and year. `taken` has the
-/// products in the order in which they were taken.
+/// Returns the gaps of the products: the events that were opened with a number other than the next
+/// one of their hazard and year. `taken` has the products in the order in which they were taken;
+/// the gaps are in that order, and within a product by hazard, number and year.
 ///
 /// # Errors
 ///

@@ -157,8 +157,9 @@ fn parts_by_frame<'a>(
 }
 
 /// Returns the lines of an office and class that a product's frame has, judged by `rows`, those
-/// just before the product. They come as runs in the order of the text, where no two lines of a run
-/// have the same event.
+/// just before the product. They come as runs in the order of the text. A run has zones in which
+/// the same lines found the same lives and have the same breaches; no two lines of a run have the
+/// same event.
 ///
 /// # Errors
 ///

@@ -107,7 +107,8 @@ impl Reader {
     }
 
     /// Adds a product to those taken, which it follows: its lines are judged by the rows that they
-    /// left, and change these. Lines of another office or class are passed over.
+    /// left, and change these. Lines of another office or class are passed over. At most
+    /// 4,294,967,295 products may be taken.
     ///
     /// # Errors
     ///
@@ -127,7 +128,7 @@ impl Reader {
 
     /// Adds a product, given by its frame, to those taken, which it follows: its lines are judged
     /// by the rows that they left, and change these. Lines of another office or class are passed
-    /// over.
+    /// over. At most 4,294,967,295 products may be taken.
     ///
     /// # Errors
     ///
@@ -204,7 +205,8 @@ impl Reader {
     }
 
     /// Returns the events that were opened with a number other than the next one of their hazard
-    /// and year, each with both numbers, in the order in which they were opened.
+    /// and year, each with both numbers. They are product by product, and within one by hazard,
+    /// number and year.
     ///
     /// # Errors
     ///

@@ -61,7 +61,8 @@ impl Taken {
     }
 
     /// Returns the lines of the office and class with their breaches, as runs in the order of the
-    /// text. No two lines of a run have the same event.
+    /// text. A run has zones in which the same lines have the same breaches; no two lines of a run
+    /// have the same event.
     pub fn runs(&self) -> &[Run]
         ensures judged { expand result.now ≡ self.now.judged }
         ensures apart { AreApart result.now }
@@ -125,9 +126,11 @@ fn same_named(a: &Vtec, b: &Vtec) -> bool
     a.etn == b.etn && a.action == b.action && a.hazard == b.hazard
 }
 
-/// Returns the event that a P-VTEC line names, given `rows`, those just before its product, and the
-/// product's issue minute `t`. `known` is an earlier P-VTEC line of the product with its event, or
-/// `None`; if it has the same number, action and hazard, its event is returned without a look-up.
+/// Returns the event of a P-VTEC line: the one with its hazard and number that is open in `rows`,
+/// those just before its product, of several the latest; for NEW, or if none is open, it is of the
+/// year of the issue minute `t`. `known` is an earlier P-VTEC line of the product with its event,
+/// or `None` if none is at hand; if it has the same number, action and hazard, its event is
+/// returned without a look-up.
 pub fn event_of(rows: &RowIndex, t: Minute, known: &Option<Known>, vtec: &Vtec) -> Event
     requires { IsKnown rows.now t known.now }
     ensures { result ≡ event_of rows.now t vtec.now }
@@ -211,8 +214,9 @@ fn lines_by(
 }
 
 /// Returns the lines of an office and class that product `d` has, judged by `rows`, those just
-/// before the product. They come as runs in the order of the text, where no two lines of a run have
-/// the same event.
+/// before the product. They come as runs in the order of the text. A run has zones in which the
+/// same lines found the same lives and have the same breaches; no two lines of a run have the same
+/// event.
 ///
 /// # Errors
 ///

@@ -21,8 +21,9 @@ use hazard_types::{
 };
 use std::alloc::Global;
 
-/// Whether the first twelve bytes are such as a heading line starts with: as `WWUS41 KLWX` and a
-/// blank.
+/// Whether the first twelve bytes of `line` are of the form with which a heading line starts, as
+/// `WWUS41 KLWX` and a blank: four capital letters, two digits, a blank, four characters of A-Z and
+/// 0-9, and a blank. A blank is a space or a tab; `line` must have at least twelve bytes.
 fn is_front(line: &[u8]) -> bool
     requires { 12 ≤ length line.now }
     ensures { result ≡ is_front line.now }
@@ -52,8 +53,10 @@ fn is_bbb(line: &[u8], i: usize) -> bool
         && line[i + 2].is_ascii_uppercase()
 }
 
-/// Returns the values of a heading line from its first 18 bytes, as `WWUS41 KLWX 031530`, and
-/// `bbb`, the `BBB` after them, if any. `None` if these bytes are not those of a heading line.
+/// Returns the values of a heading line from its first 18 bytes, as `WWUS41 KLWX 031530`, with
+/// `bbb` as its `BBB`. `None` if the first twelve bytes do not have the form `TTAAii CCCC` and a
+/// blank, or the other six are no day of the month, hour and minute. `line` must have at least 18
+/// bytes.
 #[tactic(auto, unfolding(crate::specs::Parts::heading_by))]
 fn heading_by(line: &[u8], bbb: Option<[u8; 3]>) -> Option<Heading>
     requires { 18 ≤ length line.now }
@@ -73,8 +76,10 @@ fn heading_by(line: &[u8], bbb: Option<[u8; 3]>) -> Option<Heading>
     })
 }
 
-/// Returns the values of a heading line, as `WWUS41 KLWX 031530` or `WWUS41 KLWX 031530 CCA`, or
-/// `None` if `line` is not one. `line` has no line end and no blanks at its end.
+/// Returns the values of a heading line `TTAAii CCCC DDHHMM`, as `WWUS41 KLWX 031530`, or of one
+/// with a blank and three capital letters after that, as `WWUS41 KLWX 031530 CCA`. `None` if `line`
+/// has neither form, if the day, the hour or the minute is out of range, or if a line end or blanks
+/// are at its end.
 #[tactic(auto, unfolding(crate::specs::Parts::heading_of))]
 pub fn heading_of(line: &[u8]) -> Option<Heading>
     ensures { result ≡ heading_of line.now }
@@ -88,8 +93,9 @@ pub fn heading_of(line: &[u8]) -> Option<Heading>
     None
 }
 
-/// Whether the bytes start as a heading line does: with twelve bytes such as `WWUS41 KLWX` and a
-/// blank.
+/// Whether the bytes start with twelve bytes of the form with which a heading line starts, as
+/// `WWUS41 KLWX` and a blank: four capital letters, two digits, a blank, four characters of A-Z and
+/// 0-9, and a blank. `false` if there are fewer than twelve.
 fn may_be_heading(rest: &[u8]) -> bool
     ensures { result ≡ may_be_heading rest.now }
 {

@@ -271,9 +271,11 @@ fn take_line_at_pairs(
     }
 }
 
-/// Reads the line that starts at byte `start`, as the stage of `walk` asks, or skips it if it was
-/// read with a line before. `number` is the number of the line, and `later` are the indices of the
-/// bytes at which the lines after it start, in order. Errs with `BadUgc` or `BadVtec`.
+/// Reads into `walk` the line that starts at byte `start`, or skips it if it was read with a line
+/// before. Outside of segments a line may begin one; in a segment `$$` ends it, and a line that
+/// starts with `/` is read as a P-VTEC line unless another line came since the UGC; errs with
+/// `BadUgc` or `BadVtec`. `number` is the number of the line, where the heading is line 1, and
+/// `later` are the indices of the bytes at which the lines after it start, in order.
 #[tactic(auto, unfolding(crate::specs::Walking::step))]
 fn step(
     alloc: Global,

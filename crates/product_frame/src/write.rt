@@ -186,8 +186,9 @@ fn write_block(out: &mut Text, block: &Block) -> Result<(), Oom>
 }
 
 /// Returns the text of a product: the heading, the identifier, `block`, and each segment with the
-/// body of the same index, `$$` and an empty line. There must be one body for each segment; each
-/// line ends with LF. The text is one product, and reading it gives the frame `f`.
+/// body of the same index, `$$` and an empty line; each line ends with LF. There must be one body
+/// for each segment, and `f`, `block` and `bodies` must keep the line rules of `frame_text`
+/// (docs/DECISIONS.md). The text is one product, and reading it gives the frame `f`.
 ///
 /// # Errors
 ///

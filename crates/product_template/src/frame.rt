@@ -98,7 +98,7 @@ fn pairs_of(
 
 /// Returns the frame of a segment of a product issued at minute `t`: its zones, its expiry and the
 /// values of its VTEC lines. `class` is the P-VTEC product class, and `office` the four characters
-/// of the issuing office, as `KLWX`.
+/// of the issuing office, as `KLWX`. `t` must be at most 52,000,000.
 fn segment_of(
     alloc: Global,
     class: Class,
@@ -121,7 +121,7 @@ fn segment_of(
 
 /// Returns for each segment of a product issued at minute `t`, in order, its frame: zones, expiry
 /// and the values of its VTEC lines. `class` is the P-VTEC product class, and `office` the four
-/// characters of the issuing office, as `KLWX`.
+/// characters of the issuing office, as `KLWX`. `t` must be at most 52,000,000.
 fn segments_of(
     alloc: Global,
     class: Class,
@@ -141,7 +141,7 @@ fn segments_of(
 
 /// Returns the frame of a plan's product issued at minute `t`: heading, identifier, issue minute,
 /// and the zones, expiry and VTEC values of each segment. `class` is the P-VTEC product class of
-/// all lines.
+/// all lines. `t` must be at most 52,000,000.
 ///
 /// # Errors
 ///

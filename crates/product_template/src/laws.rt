@@ -25,8 +25,9 @@ pub fn texts_say_the_lines()
 {}
 
 /// Law: the text of a plan is read as the plan's frame, and is one product, however long it is.
-/// This holds if the codes of the plan's segments read back as they were written, which those of
-/// zones, minutes and letters of their types do.
+/// This holds if the arguments are such as `product_text` requires (as that zones have names,
+/// unless in class `T`, and texts are printable), and the codes of the plan's segments read back as
+/// they were written, which those of zones, minutes and letters of their types do.
 pub fn texts_read_as_their_plans()
     ensures frame { (settings : Settings) (class : Class) (plan : Plan) (t : ℕ)
         (edition : Edition) →

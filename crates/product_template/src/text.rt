@@ -55,7 +55,8 @@ fn whole_text(
 }
 
 /// Returns the length in bytes of the text of a plan's product issued at minute `t`, however long.
-/// The texts of an event are laid out once, however many lines the event has.
+/// The texts of an event are laid out once, however many lines the event has. In class `T` zones
+/// have no names, and in edition One lines have no WHEN bullet.
 fn text_length(
     alloc: Global,
     settings: &Settings,
@@ -73,9 +74,12 @@ fn text_length(
     checked_sum(bare.len(), said)
 }
 
-/// Returns the text of a plan as a product that is issued at minute `t`: lines that each end with
-/// LF, at most 65,536 bytes in all. `class` is the P-VTEC product class; in class `T` zones have no
-/// names. In edition One lines have no WHEN bullet.
+/// Returns the text of a plan as a product that is issued at minute `t`, which is at most
+/// 52,000,000: lines that each end with LF, at most 65,536 bytes in all. `class` is the P-VTEC
+/// product class: in class `T` zones have no names, in others the settings must have a name for
+/// each zone; in edition One lines have no WHEN bullet. The forecasters' texts must be printable
+/// ASCII, each segment must have zones, each once and in order, and hazards that the desk issues,
+/// and the letter of a correction must be a capital.
 ///
 /// # Errors
 ///

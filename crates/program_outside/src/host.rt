@@ -39,12 +39,13 @@ impl<'a> HostFiles<'a> {
         HostFiles { rt }
     }
 
-    /// Opens the file for reading and writing, and creates it empty if it is not there. With
-    /// `Access::Writes` it is locked until it is closed.
+    /// Opens the file `path` for reading and writing, whatever `access` is, and creates it empty if
+    /// it is not there. With `Access::Writes` it is locked until it is closed; with `Access::Reads`
+    /// no lock is taken or asked for.
     ///
     /// # Errors
     ///
-    /// The system's error, also if another program holds the lock.
+    /// The system's error; with `Access::Writes`, also if another program holds the lock.
     fn file(&self, path: &str, access: Access) -> io::Result<File> {
         let file = File::options()
             .read(true)

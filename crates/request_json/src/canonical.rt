@@ -212,7 +212,8 @@ fn set_routine(alloc: Global, members: &mut Members, part: &RoutinePart) -> Resu
     set_zones_texts(alloc, members, part.zones.as_slice(), &part.texts)
 }
 
-/// Sets the member `do` to `word`, which is `issue` or `put`, and the members of the put.
+/// Sets the member `do` to `word`, which is `issue` or `put`, and the members of the put: `hazard`
+/// or `event`, `zones`, `texts`, `begin`, `end`, and `flood` if there are H-VTEC values.
 fn set_put_do(alloc: Global, members: &mut Members, word: &str, part: &PutPart) -> Result<(), Oom>
     ensures { OnOk result (members_view members.new.entries
         ≡ set_put_do word.now part.now (members_view members.old.entries)) }

@@ -60,8 +60,8 @@ pub fn number_at(value: &Value, key: &str) -> Option<u32>
     }
 }
 
-/// Returns the five characters of the code of an H-VTEC location, as `FDKM2`, or `None` if the text
-/// is not one.
+/// Returns the code of an H-VTEC location, as `FDKM2`, or `None` if the text is not five characters
+/// of A-Z and 0-9.
 fn location_of(text: &str) -> Option<[u8; 5]>
     ensures { result ≡ location_at text.now }
 {
@@ -92,8 +92,8 @@ fn severity_in(value: &Value) -> Option<Severity>
     Severity::from_code(text.as_bytes())
 }
 
-/// Returns the flood cause whose code is the member `cause`, or `None` if it is missing or not one
-/// of the causes that a request may name.
+/// Returns the flood cause whose two letters are the member `cause`, or `None` if it is missing or
+/// is not `ER`, `SM`, `RS`, `DM`, `IJ`, `MC` or `UU`, which are those that a request may name.
 fn cause_in(value: &Value) -> Option<Cause>
     ensures { result ≡ cause_in (view value.now) }
 {
@@ -118,8 +118,9 @@ fn status_in(value: &Value) -> Option<Status>
     Status::from_code(text.as_bytes())
 }
 
-/// Returns the H-VTEC values of an object, or `None` if one of the seven is missing or wrong. Other
-/// keys are not looked at.
+/// Returns the H-VTEC values in the members `site`, `severity`, `cause`, `begin`, `crest`, `end`
+/// and `status` of an object, or `None` if one of them is missing or wrong. Other keys are not
+/// looked at.
 #[tactic(auto, unfolding(crate::specs::Fields::values_in))]
 fn values_in(value: &Value) -> Option<Flood>
     ensures { result ≡ values_in (view value.now) }

@@ -42,7 +42,8 @@ pub enum Keys {
 }
 
 impl Verb {
-    /// Returns the verb that the word is, as `open` or `send`, or `None` if the word is no verb.
+    /// Returns the verb that the word is, or `None` if it is not `open`, `issue`, `put`, `end`,
+    /// `restate`, `routine`, `drop`, `take`, `discard`, `send` or `correct`.
     pub fn from_word(word: &str) -> Option<Verb>
         ensures { result ≡ verb_at word.now }
     {
@@ -86,36 +87,40 @@ fn is_common(key: &str) -> bool
     matches!(key, "desk" | "seq" | "do")
 }
 
-/// Whether both an `issue` and a `put` may have the key, apart from `desk`, `seq` and `do`.
+/// Whether the key is `zones`, `begin`, `end`, `flood` or `texts`. Both an `issue` and a `put` may
+/// have these beside the keys that say which event they are on.
 fn is_of_put(key: &str) -> bool
     ensures { result ≡ is_of_put key.now }
 {
     matches!(key, "zones" | "begin" | "end" | "flood" | "texts")
 }
 
-/// Whether an `issue` may have the key, apart from `desk`, `seq` and `do`. A line of the training
-/// office may have these keys too.
+/// Whether an `issue` may have the key, apart from `desk`, `seq` and `do`: `hazard`, `zones`,
+/// `begin`, `end`, `flood` or `texts`. A line of the training office may have these keys too.
 fn is_of_issue(key: &str) -> bool
     ensures { result ≡ is_of_issue key.now }
 {
     key == "hazard" || is_of_put(key)
 }
 
-/// Whether a put into a draft may have the key, apart from `desk`, `seq` and `do`.
+/// Whether a put into a draft may have the key, apart from `desk`, `seq` and `do`: `draft`,
+/// `hazard`, `event`, `zones`, `begin`, `end`, `flood` or `texts`.
 fn is_of_draft_put(key: &str) -> bool
     ensures { result ≡ is_of_draft_put key.now }
 {
     matches!(key, "draft" | "hazard" | "event") || is_of_put(key)
 }
 
-/// Whether an `end` or a `restate` may have the key, apart from `desk`, `seq` and `do`.
+/// Whether an `end` or a `restate` may have the key, apart from `desk`, `seq` and `do`: `draft`,
+/// `event`, `zones` or `texts`.
 fn is_of_event(key: &str) -> bool
     ensures { result ≡ is_of_event key.now }
 {
     matches!(key, "draft" | "event" | "zones" | "texts")
 }
 
-/// Whether a `routine` may have the key, apart from `desk`, `seq` and `do`.
+/// Whether a `routine` may have the key, apart from `desk`, `seq` and `do`: `draft`, `hazard`,
+/// `zones` or `texts`.
 fn is_of_routine(key: &str) -> bool
     ensures { result ≡ is_of_routine key.now }
 {

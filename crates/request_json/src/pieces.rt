@@ -19,7 +19,8 @@ fn is_plain(byte: u8) -> bool
     32 <= byte && byte < 127 && byte != b'"' && byte != b'\\'
 }
 
-/// Whether each of the bytes stands in a JSON string as it is, without an escape.
+/// Whether all bytes are printable ASCII characters other than the quote and the backslash, so that
+/// they stand in a JSON string without an escape.
 fn are_plain(bytes: &[u8]) -> bool
     ensures { result ≡ list_all is_plain bytes.now }
 {

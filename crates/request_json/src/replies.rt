@@ -59,8 +59,9 @@ fn write_place_end(out: &mut Text, place: u32) -> Result<(), Oom>
     out.push(b'}')
 }
 
-/// Returns the text of a reply to `put`, `end`, `restate` or `routine`. `draft` is the number of
-/// the draft, and `place` the index of its new intent, counted from 0.
+/// Returns the text of a reply to `put`, `end`, `restate` or `routine`, in which `ok` is `put`
+/// whichever it was. `draft` is the number of the draft, and `place` the index of its new intent,
+/// counted from 0.
 #[tactic(auto, using(crate::proofs::PieceLemmas::placed_in_two))]
 fn placed_text(alloc: Global, draft: u32, place: u32) -> Result<Text, Oom>
     ensures { IfOk result (λ text. text ≡ reply_text (Placed draft place)) }

@@ -170,8 +170,9 @@ fn texts_field(alloc: Global, value: &Value) -> Result<Texts, Or<Text>>
     given(alloc, texts, "texts")
 }
 
-/// Returns the events with their texts in the member `texts` of a correction, in order, an empty
-/// list if there is no such member, or `None` if it is wrong.
+/// Returns the events with their texts in the member `texts` of a correction, in order, or an empty
+/// list if there is no such member. `None` if it is no array, or one of its values is not an object
+/// with the members `event` and `texts` and no others, or one of these is wrong.
 fn event_texts_or_none(alloc: Global, value: &Value) -> Result<Option<List<EventTexts>>, Oom>
     ensures { IfOk result (λ texts. texts
         ≡ event_texts_or_none (get (codes "texts") (view value.now))) }
@@ -209,8 +210,9 @@ fn target_field(alloc: Global, value: &Value) -> Result<Target, Or<Text>>
     }
 }
 
-/// Returns the put on `target` from the fields `zones`, `begin`, `end`, `flood` and `texts`. Errs
-/// with `Or::No` and the name of the first of them that is wrong, or missing where it may not be.
+/// Returns the put on `target` from the fields `zones`, `begin`, `end`, `flood` and `texts`, of
+/// which `flood` and `texts` may be missing. Errs with `Or::No` and the name of the first of them,
+/// in this order, that is wrong or, if it is one of the first three, missing.
 #[tactic(auto, unfolding(crate::specs::Form::put_on))]
 fn put_on(alloc: Global, target: Target, value: &Value) -> Result<PutPart, Or<Text>>
     ensures { Gives result (put_on target (view value.now)) }
@@ -226,7 +228,8 @@ fn put_on(alloc: Global, target: Target, value: &Value) -> Result<PutPart, Or<Te
 }
 
 /// Returns the put of an `issue`, which opens an event of the hazard in the field `hazard`. Errs
-/// with `Or::No` and the name of the first field that is missing or wrong.
+/// with `Or::No` and the name of the first of the fields `hazard`, `zones`, `begin`, `end`, `flood`
+/// and `texts`, in this order, that is wrong or missing; the last two may be missing.
 #[tactic(auto, unfolding(crate::specs::Form::issue_part))]
 fn issue_part(alloc: Global, value: &Value) -> Result<PutPart, Or<Text>>
     ensures { Gives result (issue_part (view value.now)) }
@@ -236,8 +239,9 @@ fn issue_part(alloc: Global, value: &Value) -> Result<PutPart, Or<Text>>
 }
 
 /// Returns the put of a `put`, which opens an event of the hazard in the field `hazard` or joins
-/// the event in the field `event`. Errs with `Or::No` and the name of the first field that is
-/// missing or wrong.
+/// the event in the field `event`. Errs with `Or::No` and a field's name: `hazard` if both or
+/// neither of these two are there, else the first that is wrong or missing of the one that is
+/// there, `zones`, `begin`, `end`, `flood` and `texts`, in this order. The last two may be missing.
 #[tactic(auto, unfolding(crate::specs::Form::put_part))]
 fn put_part(alloc: Global, value: &Value) -> Result<PutPart, Or<Text>>
     ensures { Gives result (put_part (view value.now)) }
@@ -246,8 +250,9 @@ fn put_part(alloc: Global, value: &Value) -> Result<PutPart, Or<Text>>
     put_on(alloc, target, value)
 }
 
-/// Returns the event, the zones and the texts of an `end` or a `restate`. Errs with `Or::No` and
-/// the name of the first of these fields that is missing or wrong.
+/// Returns the event, the zones and the texts of an `end` or a `restate`; the texts are empty if
+/// the field `texts` is missing. Errs with `Or::No` and the name of the first of `event`, `zones`
+/// and `texts` that is wrong, or missing in the case of the first two.
 #[tactic(auto, unfolding(crate::specs::Form::event_part))]
 fn event_part(alloc: Global, value: &Value) -> Result<EventPart, Or<Text>>
     ensures { Gives result (event_part (view value.now)) }
@@ -262,8 +267,9 @@ fn event_part(alloc: Global, value: &Value) -> Result<EventPart, Or<Text>>
     })
 }
 
-/// Returns the hazard, the zones and the texts of a `routine`. Errs with `Or::No` and the name of
-/// the first of these fields that is missing or wrong.
+/// Returns the hazard, the zones and the texts of a `routine`; the texts are empty if the field
+/// `texts` is missing. Errs with `Or::No` and the name of the first of `hazard`, `zones` and
+/// `texts` that is wrong, or missing in the case of the first two.
 #[tactic(auto, unfolding(crate::specs::Form::routine_part))]
 fn routine_part(alloc: Global, value: &Value) -> Result<RoutinePart, Or<Text>>
     ensures { Gives result (routine_part (view value.now)) }
@@ -299,7 +305,7 @@ fn draft_in(alloc: Global, verb: Verb, draft: u32, value: &Value) -> Result<Requ
 
 /// Returns the request on a draft from the field `draft` and those that its verb has beside it.
 /// Errs with `Or::No` and the name of the first of them that is missing or wrong. `verb` is one
-/// that works on a draft.
+/// that works on a draft; one that does not is taken as `send`.
 #[tactic(auto, unfolding(crate::specs::Form::draft_request))]
 fn draft_request(alloc: Global, verb: Verb, value: &Value) -> Result<Request, Or<Text>>
     ensures { Gives result (draft_request verb (view value.now)) }
@@ -344,9 +350,10 @@ fn known<T: Drop>(
     }
 }
 
-/// Returns the request that a JSON value is, with its desk and number. Errs with `Or::No` and the
-/// name of the first field that is missing or wrong: `.` if the value is no object, `?` for an
-/// unknown key.
+/// Returns the request that a JSON value is, with its desk and number. Errs with `Or::No` and `.`
+/// if the value is no object, else with the name of the first field that is missing or wrong, of
+/// `desk`, `seq`, `do` and then those of the kind of request. If all of these are right and there
+/// is an unknown key, it errs with `Or::No` and `?`.
 #[tactic(auto, unfolding(crate::specs::Form::asked_in))]
 fn asked_in(alloc: Global, value: &Value) -> Result<Asked, Or<Text>>
     ensures { Gives result (asked_in (view value.now)) }

@@ -29,8 +29,9 @@ fn is_after_last_zone(last: &Option<Zone>, zone: &Zone) -> bool
     }
 }
 
-/// Whether the zones strictly ascend, and the first comes after `last` if that is not `None`. If
-/// so, `last` becomes the last of `zones`, and stays as it is if there is none.
+/// Whether the zones strictly ascend, and the first comes after `last` if that is not `None`.
+/// `last` becomes the last of `zones`, or on `false` the one before the first that is out of order;
+/// if there is no such zone, it stays as it is.
 fn zones_rise(last: &mut Option<Zone>, zones: &[Zone]) -> bool
     ensures rise { result ≡ zones_rise last.old zones.now }
     ensures last { result ≡ true → last.new ≡ last_zone last.old zones.now }

@@ -20,8 +20,8 @@ pub struct Alone {
 }
 
 impl Alone {
-    /// Appends the zone of the line of `verdict` to the zones. The verdict must be the same but for
-    /// that zone.
+    /// Appends the zone of the line of `verdict` to the zones of this pending run, whose own
+    /// verdict must be the same as `verdict` but for the zone of the line.
     fn put(&mut self, verdict: &Verdict) -> Result<(), Oom>
         ensures { OnOk result (self.new ≡ further self.old verdict.now) }
     {

@@ -291,8 +291,9 @@ pub fn has_period(held: &Held, t: Minute, event: &Event, period: &Period) -> boo
 }
 
 /// Sets a row of an event with `life` in each of the zones. Adds the event to `events` if it had no
-/// rows, and, if the life is unended and the event's hazard has a rank, adds to `reaches` the end
-/// of the life in the areas of the zones. On `Oom` the three may no longer agree.
+/// rows, and, if the life is unended and the event's hazard has a rank, adds to `reaches` that the
+/// event reaches to the end of the life in the areas of the zones (an area is the zones of a state
+/// whose numbers have the same quotient by 16). On `Oom` the three may no longer agree.
 ///
 /// # Errors
 ///

@@ -75,9 +75,10 @@ pub fn is_above(high: &Rank, low: &Rank) -> bool
     *family == *other && *under < *rank
 }
 
-/// Whether `row` is live at `t`, its hazard has a greater rank than `low` in the same family, and
-/// its period overlaps that of `own`: each begins before the other ends. The zones of the two rows
-/// are not compared.
+/// Whether `row` is live at `t` (unended, with an end after `t` or until further notice), its
+/// hazard has a greater rank than `low` in the same family, and its period overlaps that of `own`:
+/// each begins before the other ends. False if `low` is `None`. The zones of the two rows are not
+/// compared.
 pub fn rises_over(t: Minute, low: &Rank, own: &Row, row: &Row) -> bool
     ensures { result ≡ rises_over t low.now own.now row.now }
 {
@@ -86,18 +87,21 @@ pub fn rises_over(t: Minute, low: &Rank, own: &Row, row: &Row) -> bool
         && is_above(&rank_of(&row.event.hazard), low)
 }
 
-/// Whether `row` is live at `t`, its hazard has a greater rank than `low` in the same family, its
-/// period overlaps that of `own`, and its key (zone and event) is not in `upgraded`, the keys of
-/// the UPG lines. The zones of the two rows are not compared.
+/// Whether `row` is live at `t` (unended, with an end after `t` or until further notice), its
+/// hazard has a greater rank than `low` in the same family, its period overlaps that of `own`, and
+/// its key (zone and event) is not in `upgraded`, the keys of the UPG lines. False if `low` is
+/// `None`. The zones of the two rows are not compared.
 fn stays_over(upgraded: &Seats, t: Minute, low: &Rank, own: &Row, row: &Row) -> bool
     ensures { result ≡ stays_over t low.now upgraded.now.keys own.now row.now }
 {
     rises_over(t, low, own, row) && !has_seat(upgraded, &row.event, &row.zone)
 }
 
-/// Whether, among the rows in the zone of `own` that lines of the product leave, one is live at
-/// `t`, has a hazard of a greater rank than `low` in the same family, overlaps `own`, and is of an
-/// event that no UPG line has in that zone.
+/// Whether, among the rows in the zone of `own` that lines of the product leave, one is live at `t`
+/// (unended, with an end after `t` or until further notice), has a hazard of a greater rank than
+/// `low` in the same family, overlaps `own`, and is of an event that no UPG line has in that zone.
+/// False if `low` is `None`. `changed` has the rows that the product leaves and the keys of its UPG
+/// lines.
 pub fn any_counted_over(changed: &Changed, t: Minute, low: &Rank, own: &Row) -> bool
     requires { AreSeated changed.now.counted.entries }
     ensures { result ≡ list_any (stays_over t low.now changed.now.upgraded.keys own.now)
@@ -122,9 +126,10 @@ pub fn is_untouched(changed: &Changed, zone: &Zone, event: &Event) -> bool
     !has_seat(&changed.upgraded, event, zone) && row_in(&changed.counted, event, zone).is_none()
 }
 
-/// Whether `row`, one from before the product, is live at `t`, has a hazard of a greater rank than
-/// `low` in the same family, and overlaps `own`, and the product changes nothing of its event in
-/// the zone of `own`.
+/// Whether `row`, one from before the product, is live at `t` (unended, with an end after `t` or
+/// until further notice), has a hazard of a greater rank than `low` in the same family, and
+/// overlaps `own`, and the product, as `changed` tells, changes nothing of its event in the zone of
+/// `own`. False if `low` is `None`.
 fn is_still_over(changed: &Changed, t: Minute, low: &Rank, own: &Row, row: &Row) -> bool
     requires { AreSeated changed.now.counted.entries }
     ensures { result ≡ still_over t low.now
@@ -133,9 +138,11 @@ fn is_still_over(changed: &Changed, t: Minute, low: &Rank, own: &Row, row: &Row)
     rises_over(t, low, own, row) && is_untouched(changed, &own.zone, &row.event)
 }
 
-/// Whether, among the rows from before the product in the zone of `own`, one is live at `t`, has a
-/// hazard of a greater rank than `low` in the same family, overlaps `own`, and is of an event of
-/// which the product changes nothing in that zone.
+/// Whether, among the rows from before the product in the zone of `own`, one is live at `t`
+/// (unended, with an end after `t` or until further notice), has a hazard of a greater rank than
+/// `low` in the same family, overlaps `own`, and is of an event of which the product changes
+/// nothing in that zone. False if `low` is `None`. `changed` has those rows and what the product
+/// changes.
 fn any_still_over(changed: &Changed, t: Minute, low: &Rank, own: &Row) -> bool
     requires counted { AreSeated changed.now.counted.entries }
     requires higher { AreSeated changed.now.higher.entries }
@@ -152,9 +159,10 @@ fn any_still_over(changed: &Changed, t: Minute, low: &Rank, own: &Row) -> bool
     false
 }
 
-/// Whether after the product a row in the zone of `own` is live at `t`, has a hazard of a greater
-/// rank of the family than that of `own`, and overlaps `own`; true also if the hazard of `own` has
-/// no rank. `own` is the row of a UPG line before the product.
+/// Whether after the product, which changes `changed`, a row in the zone of `own` is live at `t`
+/// (unended, with an end after `t` or until further notice), has a hazard of a greater rank than
+/// that of `own` in the same family, and overlaps `own`. True also if the hazard of `own` has no
+/// rank. `own` is the row of a UPG line before the product.
 ///
 /// Source: docs/DECISIONS.md, "Lives".
 pub fn is_overlapped(changed: &Changed, t: Minute, own: &Row) -> bool

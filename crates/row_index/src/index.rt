@@ -159,7 +159,7 @@ impl RowIndex {
 
     /// Whether a row of the line's event that is live at `t`, the product's issue minute, has the
     /// period that the line (NEW, EXA or EXB) would open. A row is live if it is unended and its
-    /// end is after `t`. Two begins at `t` or before count as equal.
+    /// end is after `t` or until further notice. Two begins at `t` or before count as equal.
     fn has_opened_period(&self, t: Minute, line: &Line) -> bool
         ensures { result ≡ has_opened_period self.now t line.now }
     {
@@ -211,7 +211,7 @@ impl RowIndex {
     /// `t`, the product's issue minute; otherwise it is the event with the line's hazard and number
     /// that is open at `t`, of the greatest year if there are several, or one of the year of `t` if
     /// none is open. `self` has the rows just before the product, and an event is open if it has an
-    /// unended row whose end is at most half an hour before `t`, or later.
+    /// unended row whose end is at most half an hour before `t`, or later, or until further notice.
     pub fn event_of(&self, t: Minute, vtec: &Vtec) -> Event
         ensures { result ≡ event_of self.now t vtec.now }
     {

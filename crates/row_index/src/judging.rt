@@ -361,9 +361,10 @@ impl RowIndex {
     }
 
     /// Returns the verdicts on the lines of a product as runs, part by part and in each part in the
-    /// order of its zones; successive zones with the same verdicts may be one run. `parts` must be
+    /// order of its zones; successive zones with the same verdicts may be one run. A run has all
+    /// lines of its part, or, if `are_apart` is false of the parts, one line alone. `parts` must be
     /// in the order of the text, since a line other than ROU with the event and zone of an earlier
-    /// one other than ROU is in breach. `self` has the rows just before the product, and `t` is the
+    /// one other than ROU is in breach; `self` has the rows just before the product, and `t` is the
     /// product's issue minute.
     ///
     /// # Errors

@@ -118,8 +118,9 @@ fn row_among(
     rows.row_at(near, event, zone)
 }
 
-/// Adds to `higher` the rows of an event that are live at `t` and in one of `zones`, by a walk over
-/// `all`. `all` and `rows` are both the event's rows.
+/// Adds to `higher` the rows of an event that are in one of `zones` and live at `t` (unended, with
+/// an end after `t` or until further notice), by a walk over `all`. `all` and `rows` are both the
+/// event's rows.
 fn add_among(
     higher: &mut Seated,
     all: &[Row],
@@ -142,8 +143,9 @@ fn add_among(
     Ok(())
 }
 
-/// Adds to `higher` the rows of an event that are live at `t` and in one of `zones`, by a walk over
-/// its rows or over the zones, whichever are fewer. `rows` are the event's.
+/// Adds to `higher` the rows of an event that are in one of `zones` and live at `t` (unended, with
+/// an end after `t` or until further notice), by a walk over its rows or over the zones, whichever
+/// seem fewer. `rows` are the event's.
 ///
 /// # Errors
 ///

@@ -443,13 +443,15 @@ impl LifeMap {
         Ok(compacted)
     }
 
-    /// Whether the list of lives has more entries than twice the number of zones plus 16.
+    /// Whether the list of lives is longer than twice the number of zones by more than 16 entries.
+    /// The number of zones is a hint, so no contract promises that the answer is right.
     fn is_loose(&self) -> bool {
         self.lives.len() > self.zones.saturating_mul(2).saturating_add(SPARE)
     }
 
-    /// Removes the lives that no zone has, if the list of lives has more entries than twice the
-    /// number of zones plus 16. `event` may be any; it does not change the result.
+    /// Removes the lives that no zone has, if the list of lives is longer than twice the number of
+    /// zones by more than 16 entries. The life of each zone stays as it is. `event` may be any; it
+    /// does not change the result.
     ///
     /// # Errors
     ///

@@ -123,7 +123,8 @@ fn lasting(reaches: &Reaches, area: u32, t: Minute) -> Range<'_, Reach>
     reaches.range(from..Reach { area, end, spot })
 }
 
-/// Whether `own` is a greater rank than one of `ranks` of the same family.
+/// Whether `own` is a greater rank than one of `ranks` of the same family. False if `own` is
+/// `None`, and a `None` among `ranks` counts for nothing.
 fn is_above_one(ranks: &[Rank], own: &Rank) -> bool
     ensures { result ≡ list_any (is_above own.now) ranks.now }
 {

@@ -92,7 +92,8 @@ impl SeenKeys {
     }
 
     /// Returns whether the key (zone and event) of a line is there already, and appends it to the
-    /// ascending keys if `counts` is true. The key must come after `last` by zone, then event.
+    /// ascending keys if `counts` is true. The key must come after `last` by zone, then event,
+    /// unless `last` is `None`.
     fn mark_seen_ascending(&mut self, counts: bool, line: &Line) -> Result<bool, Oom>
         requires free { IsFree self.old.last self.old.rising.items }
         requires behind { is_after_last_key self.old.last (key_of_line line.now) ≡ true }

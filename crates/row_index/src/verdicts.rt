@@ -30,7 +30,8 @@ pub struct Verdict {
 }
 
 impl Verdict {
-    /// Whether the line is lawful and not routine.
+    /// Whether the line is lawful, which is to have no breach, and not routine (ROU), so that it
+    /// leaves a row in each of its zones.
     pub fn leaves_row(&self) -> bool
         ensures { result ≡ leaves_row self.now }
     {

@@ -71,7 +71,8 @@ fn parse_three_digits(x: u8, y: u8, z: u8) -> Option<u16>
     }
 }
 
-/// Returns the zone that six characters give, as `MDZ003`, or `None` if they are no zone.
+/// Returns the zone that six characters give, as `MDZ003`: two letters A-Z of the state, the kind
+/// `C` or `Z`, and the number, 001 to 999. `None` if they have another form.
 #[tactic(auto, unfolding(crate::specs::Codes::full_code))]
 fn full_code(text: &[u8; 6]) -> Option<Zone>
     ensures { result ≡ full_code text.now }
@@ -98,8 +99,8 @@ fn short_code(before: &Option<Zone>, text: &[u8; 3]) -> Option<Zone>
 }
 
 /// Returns the zone that a text spells, either in six characters, as `MDZ003`, or in three digits
-/// with the state and kind of `before`, the first zone of the group before. It is `None` if the
-/// text is neither, or has three digits and `before` is `None`.
+/// with the state and kind of `before`, the first zone of the group before; the number is 001 to
+/// 999. It is `None` if the text has neither form, or has three digits and `before` is `None`.
 fn code_of(before: &Option<Zone>, text: &[u8]) -> Option<Zone>
     ensures { result ≡ code_of before.now text.now }
 {
@@ -125,9 +126,9 @@ fn rising_run(first: Zone, last: u16) -> Result<Group, Refused>
 }
 
 /// Returns the group of a run, as `MDZ003>006`, or `003>006` with the state and kind of `before`,
-/// the first zone of the group before. It errs with `NoCode` if the text has neither form, and with
-/// `NoRange` if its last number is not above its first. The text must have at least four bytes, and
-/// a `>` before its last three.
+/// the first zone of the group before. It errs with `NoCode` if the text has neither form, or has
+/// no state and kind and `before` is `None`, and with `NoRange` if its last number is not above its
+/// first. The text must have at least four bytes, and a `>` before its last three.
 #[tactic(auto, unfolding(crate::specs::Codes::parse_run))]
 fn parse_run(before: &Option<Zone>, text: &[u8]) -> Result<Group, Refused>
     requires { 4 ≤ length text.now }
@@ -145,7 +146,8 @@ fn parse_run(before: &Option<Zone>, text: &[u8]) -> Result<Group, Refused>
 }
 
 /// Returns the group of one zone, as `MDZ003`, or `003` with the state and kind of `before`, the
-/// first zone of the group before. It errs with `NoCode` if the text has neither form.
+/// first zone of the group before; the number is 001 to 999. It errs with `NoCode` if the text has
+/// neither form, or has three digits and `before` is `None`.
 #[tactic(auto, unfolding(crate::specs::Codes::parse_single))]
 fn parse_single(before: &Option<Zone>, text: &[u8]) -> Result<Group, Refused>
     ensures value { result ≡ parse_single before.now text.now }
@@ -174,10 +176,11 @@ fn parse_expiry(before: &Option<Zone>, text: &[u8]) -> Result<Group, Refused>
     }
 }
 
-/// Returns the group, a zone, a run of zones or an expiry, that the bytes up to a hyphen spell. It
-/// errs with `NoRange` for a run whose last number is not above its first, and with `NoCode` for
-/// bytes of no such form or an expiry before any zone. `before` is the first zone of the group
-/// before, or `None` in the first group.
+/// Returns the group, a zone, a run of zones or an expiry, that the bytes up to a hyphen spell;
+/// three digits stand for a zone with the state and kind of `before`, the first zone of the group
+/// before. It errs with `NoRange` for a run whose last number is not above its first, and with
+/// `NoCode` for bytes of no such form. If `before` is `None`, as in the first group, an expiry and
+/// a group without state and kind err with `NoCode` too.
 #[tactic(auto, unfolding(crate::specs::Codes::parse_group))]
 fn parse_group(before: &Option<Zone>, text: &[u8]) -> Result<Group, Refused>
     ensures value { result ≡ parse_group before.now text.now }

@@ -59,9 +59,10 @@ fn push_pieces(groups: &mut List<Span>, span: &Span) -> Result<(), Oom>
     }
 }
 
-/// Returns the groups in which zones are written: a span for each single zone, two for two zones in
-/// a row, and one for three and more. The zones must be in order by state, kind and number, each
-/// once, and at least one.
+/// Returns the groups in which zones are written, in order. Zones of one state and kind with
+/// consecutive numbers are one group, a run, if they are three or more, and every other zone is a
+/// group of its own. The zones must be in order by state, kind and number, each once, and at least
+/// one.
 fn groups_of(alloc: Global, zones: &[Zone]) -> Result<List<Span>, Oom>
     requires { 0 < length zones.now }
     ensures value { IfOk result (λ list. list ≡ groups zones.now) }
@@ -122,8 +123,9 @@ fn push_end(own: &mut Text, span: &Span) -> Result<(), Oom>
     own.extend(&[b'>', digits[0], digits[1], digits[2]])
 }
 
-/// Returns the text of a group with its hyphen, as `MDZ003>006-` or `028-`. `before` is the first
-/// zone of the group before it, if there is one.
+/// Returns the text of a group with its hyphen, as `MDZ003>006-` or `028-`. State and kind are left
+/// out if the group has those of `before`, the first zone of the group before it, which is `None`
+/// for the first group.
 fn group_text(alloc: Global, before: &Option<Zone>, span: &Span) -> Result<Text, Oom>
     requires { span.now.last ≤ 999 }
     ensures value { IfOk result (λ own. own ≡ own_text before.now span.now) }

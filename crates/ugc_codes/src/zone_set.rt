@@ -120,8 +120,9 @@ impl ZoneSet {
         }
     }
 
-    /// Adds the zones with the state and kind of `first` from its number to `last`; none if `last`
-    /// is less. When it fails, some zones may be missing, also of those that were added before.
+    /// Adds the zones with the state and kind of `first` from its number to `last`, which is at
+    /// most 999; none if `last` is less than the number. Zones that the set has already stay in it
+    /// once. When it fails, some zones may be missing, also of those that were added before.
     ///
     /// # Errors
     ///

@@ -14,8 +14,8 @@ pub enum BodyKind {
     Plain,
 }
 
-/// Whether the HTTP status is one with which the desk answers calls: 200, 500, 503 or that of a
-/// refusal.
+/// Whether the HTTP status is one with which the desk answers calls: 200, 500, 503, or that of a
+/// refusal, which is 400, 403, 404, 405, 409, 411, 413, 422 or 431.
 #[tactic(auto, unfolding(crate::specs::Answers::is_status))]
 pub fn is_status(status: u16) -> bool
     ensures { result ≡ is_status status }
@@ -52,7 +52,8 @@ fn phrase_of(status: u16) -> &'static str
     }
 }
 
-/// Appends the status line: `HTTP/1.1`, the status, its reason phrase, and CR LF.
+/// Appends the status line: `HTTP/1.1`, the status, its reason phrase, as `Not Found` for 404, and
+/// CR LF. The status must be one with which the desk answers.
 fn set_status(alloc: Global, out: &mut Text, status: u16) -> Result<(), Oom>
     requires { IsTrue (is_status status) }
     ensures { OnOk result (out.new ≡ out.old ++ status_line status) }

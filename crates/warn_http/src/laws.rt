@@ -40,8 +40,10 @@ pub fn calls_go_on()
         IsCut bytes (calls ++ c ∷ []) (drop c.used rest) }
 {}
 
-/// A path has a route of `Routes::aim_of`, which asks for something, exactly if it is one of the
-/// desk's paths and asks for the same, with the same number.
+/// A path asks for `aim` by the table of routes (`Routes::aim_of`) exactly if it is the path that
+/// docs/HTTP.md gives for `aim`. That is `/requests` or `/board`, or `/products/`,
+/// `/products/after/`, `/drafts/` or `/preview/` with decimal digits after it that write the number
+/// of `aim`, which is below 2^32.
 pub fn routes_are_paths()
     ensures path { (path : List ℕ) (aim : Aim) → aim_of path ≡ Some aim → IsPath path aim }
     ensures route { (path : List ℕ) (aim : Aim) → IsPath path aim → aim_of path ≡ Some aim }

@@ -69,8 +69,9 @@ fn answer_to(size: usize, total: usize, wanted: &Wanted) -> HttpRead
 }
 
 /// Returns the call of a whole head within the limits, `More` if its body is not yet whole, or the
-/// refusal of the head. `front` has the bytes of the head, `headers` the spans of its fields, and
-/// `total` is how many bytes are there, counted from the call's first byte on.
+/// refusal of the head. `front` has the bytes of the head, `spans` say where its parts lie in them,
+/// and `headers` are the spans of its fields. `total` is how many bytes are there, counted from the
+/// call's first byte on.
 fn answer(
     routes: &Routes,
     front: &[u8],

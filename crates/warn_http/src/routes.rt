@@ -56,7 +56,8 @@ fn number_behind(path: &[u8], prefix: &[u8]) -> Number
     }
 }
 
-/// Returns the query of the path `/products/N`, or `None` if N is no decimal number below 2^32.
+/// Returns the query for product N if `path` is `/products/N` with a decimal number N below 2^32,
+/// or `None` for any other path.
 fn product_at(path: &[u8]) -> Option<Aim>
     ensures { result ≡ aim_at Place.Product path.now }
 {
@@ -66,8 +67,8 @@ fn product_at(path: &[u8]) -> Option<Aim>
     }
 }
 
-/// Returns the query of the path `/products/after/N`, or `None` if N is no decimal number below
-/// 2^32.
+/// Returns the query for the product after number N if `path` is `/products/after/N` with a decimal
+/// number N below 2^32, or `None` for any other path.
 fn after_at(path: &[u8]) -> Option<Aim>
     ensures { result ≡ aim_at Place.After path.now }
 {
@@ -77,7 +78,8 @@ fn after_at(path: &[u8]) -> Option<Aim>
     }
 }
 
-/// Returns the query of the path `/drafts/N`, or `None` if N is no decimal number below 2^32.
+/// Returns the query for draft N if `path` is `/drafts/N` with a decimal number N below 2^32, or
+/// `None` for any other path.
 fn draft_at(path: &[u8]) -> Option<Aim>
     ensures { result ≡ aim_at Place.Draft path.now }
 {
@@ -87,7 +89,8 @@ fn draft_at(path: &[u8]) -> Option<Aim>
     }
 }
 
-/// Returns the query of the path `/preview/N`, or `None` if N is no decimal number below 2^32.
+/// Returns the query for the preview of draft N if `path` is `/preview/N` with a decimal number N
+/// below 2^32, or `None` for any other path.
 fn preview_at(path: &[u8]) -> Option<Aim>
     ensures { result ≡ aim_at Place.Preview path.now }
 {

@@ -106,9 +106,11 @@ pub struct Left<D> {
     pub disk: D,
 }
 
-/// Serves the calls on a link by the office on a disk. Returns how the link ended, the number of
-/// requests of the office, and the disk, or `None` if no office could be opened: the disk has no
-/// office's journal, a call of it fails, or memory runs out.
+/// Opens the office of the journal on a disk and serves the calls on a link by it. Returns how the
+/// link ended, how many requests the office has accepted since its journal was made, and the disk.
+/// `None` if the office could not be opened: the disk has no office's journal, a call of the disk
+/// fails, or memory runs out. `Err` if the office was opened, but memory runs out for the lock over
+/// it; then nothing is served.
 ///
 /// # Errors
 ///

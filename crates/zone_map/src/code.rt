@@ -42,8 +42,9 @@ fn kind_rank(kind: Kind) -> u32
     }
 }
 
-/// Returns the number that stands for a zone, from the highest bit on: 16 bits for the state's two
-/// letters, one for the kind, ten for the zone's number. The numbers are in the order of the zones.
+/// Returns the number that stands for a zone. It has 27 bits, from the highest on: 16 for the
+/// state's two letters, one for the kind (0 for a county, 1 for a public zone), ten for the zone's
+/// number. The numbers are in the order of the zones.
 fn code_of(zone: &Zone) -> u32
     ensures value { result ≡ code_of zone.now }
     ensures place { IsPlace zone.now }
@@ -54,7 +55,7 @@ fn code_of(zone: &Zone) -> u32
 }
 
 impl ZoneCode {
-    /// Returns the code of a zone.
+    /// Returns the code that stands for a zone. Codes compare as their zones do.
     pub fn new(zone: &Zone) -> Self
         ensures { result ≡ zone.now }
     {

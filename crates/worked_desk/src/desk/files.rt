@@ -107,9 +107,10 @@ fn last_record(journal: &[u8]) -> &[u8] {
     bytes
 }
 
-/// Returns the line `G LENGTH REST` for the last record of a journal: the length of its body as
-/// eight hex digits, and the rest of the journal as text. It is the line `no record` if there is
-/// none.
+/// Returns the line `G LENGTH REST` for the last record of a journal, whole or not: the length that
+/// it states for its body, as eight hex digits, and all bytes of the journal after that length as
+/// text, with replacement characters for those that are not UTF-8. It is the line `no record` if
+/// the journal has no record, or if it ends within the five bytes before the last record's body.
 ///
 /// # Errors
 ///

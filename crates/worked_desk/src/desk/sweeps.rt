@@ -159,10 +159,13 @@ fn input_survives(alloc: Global, wanted: &Wanted<'_>, faults: &Faults) -> Result
     Ok(fair && kept && again.is_same(&wanted.outcome))
 }
 
-/// Returns how many runs of the input were made, and how many of them did not keep what they
-/// answered through the faults and the crash, or did not come to the same answers and products when
-/// the input was sent again. In each the disk fails at one of the first `calls` calls, or at all
-/// calls after it, and then crashes; six states that a crash may leave are tried for each.
+/// Runs the command `script` with the input of `given` over a disk with the bytes `file` as its
+/// file, lets the disk crash, and sends the input again, without faults, over the file that is
+/// left. For each of the first `calls` calls of the disk there are twelve such runs: that call
+/// fails, or all calls after it fail, each with six states that a crash may leave. Returns how many
+/// runs were made, and how many of them ended by an error other than a fault of the disk, did not
+/// keep what they answered through the faults and the crash, or did not come to the exit status,
+/// answers and products of a run without faults when the input was sent again.
 fn sweep_input(alloc: Global, given: &Given, file: &[u8], calls: u8) -> Result<Tally, Oom> {
     let wanted = Wanted {
         given,
